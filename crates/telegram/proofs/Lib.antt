@@ -1,0 +1,5 @@
+pub mod TelegramLaws
+pub mod StepLaws
+pub mod SizeLaws
+pub mod RoundTrip
+pub mod Marked

@@ -1,0 +1,3 @@
+pub mod Telegram
+pub mod Steps
+pub mod Promises

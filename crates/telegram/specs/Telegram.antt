@@ -1,0 +1,240 @@
+-- 01, Telegrams: the table, what bytes read as, and how a message is written.
+use Prim.Native.Nat.{ℕ, _+_}
+use mathlib.Core.List.{List, [], _∷_, _++_}
+use mathlib.Core.Bool.{Bool, true, false, _&&_, cond}
+use lib.Dec.{leb, eqb}
+use lib.ListN.{length, take, drop, getD}
+use Rattle.fields.specs.Digits.{digitsOf, allDigits, valueOf}
+use Rattle.fields.specs.Fields.{Field, length4, code, channel, base, callType, direction, reason, len, number, flag, year, month, day, hour, minute, second, bodyOk, valuesIn, allIn, bytesOf, size}
+use Rattle.telegram.specs.declared.message.Number.{Number}
+use Rattle.telegram.specs.declared.message.Message.{Message}
+use Rattle.telegram.specs.declared.message.Message.the-variants.{TimeNotice, OperationAnswer, TimeRequest, BaseArrival, OperationRequest, Call, CallerNotice, CaptureRequest, CaptureReply, CaptureState}
+use Rattle.telegram.specs.declared.message.Reading.{Reading}
+use Rattle.telegram.specs.declared.message.Reading.the-variants.{Telegram, Refused}
+use Rattle.telegram.specs.declared.message.Written.{Written}
+use Rattle.telegram.specs.declared.message.Written.the-variants.{Count, OutOfRange, NoRoom}
+use Rattle.telegram.specs.declared.reader.Header.{Header}
+use Rattle.telegram.specs.declared.reader.Header.the-variants.{Code, Bad}
+
+-- ---- the table
+
+-- A row: the identifier, the body's fields in their order, and the message that their numbers make.
+pub record Row : Type 0 where
+  pub id : ℕ
+  pub body : List Field
+  pub make : List ℕ → Message
+
+abbrev pub num : ℕ → Number
+num n = record { digits = n }
+
+-- the i-th number of a body, from 0
+abbrev pub nth : List ℕ → ℕ → ℕ
+nth v i = getD v i 0
+
+-- "550411 time notice: YYYYMMDDhhmmss"
+abbrev pub timeNotice : Row
+timeNotice = record {
+  id = 550411;
+  body = year ∷ month ∷ day ∷ hour ∷ minute ∷ second ∷ [];
+  make = λ v.
+      TimeNotice
+      (record { year = nth v 0; month = nth v 1; day = nth v 2; hour = nth v 3; minute = nth v 4; second = nth v 5 });
+}
+
+-- "550421 operation answer: system, state"
+abbrev pub operationAnswer : Row
+operationAnswer = record {
+  id = 550421;
+  body = flag ∷ flag ∷ [];
+  make = λ v. OperationAnswer (record { system = nth v 0; state = nth v 1 });
+}
+
+-- "550461 time request: none"
+abbrev pub timeRequest : Row
+timeRequest = record { id = 550461; body = []; make = λ v. TimeRequest }
+
+-- "550464 base arrival: CH, base, type, number, order"
+abbrev pub baseArrival : Row
+baseArrival = record {
+  id = 550464;
+  body = channel ∷ base ∷ callType ∷ number ∷ flag ∷ [];
+  make = λ v.
+      BaseArrival
+      (record { channel = nth v 0; base = nth v 1; kind = nth v 2; number = num (nth v 3); order = nth v 4 });
+}
+
+-- "550471 operation request: none"
+abbrev pub operationRequest : Row
+operationRequest = record { id = 550471; body = []; make = λ v. OperationRequest }
+
+-- "550473 call start/end: CH, base, type, media, direction, start, reason, len, source, len, destination"
+abbrev pub call : Row
+call = record {
+  id = 550473;
+  body = channel ∷ base ∷ callType ∷ flag ∷ direction ∷ flag ∷ reason ∷ len ∷ number ∷ len ∷ number ∷ [];
+  make = λ v.
+      Call
+      (record {
+        channel = nth v 0;
+        base = nth v 1;
+        kind = nth v 2;
+        media = nth v 3;
+        direction = nth v 4;
+        start = nth v 5;
+        reason = nth v 6;
+        source = num (nth v 8);
+        destination = num (nth v 10);
+      });
+}
+
+-- "550477 caller notice: CH, base, type, direction, number, order"
+abbrev pub callerNotice : Row
+callerNotice = record {
+  id = 550477;
+  body = channel ∷ base ∷ callType ∷ direction ∷ number ∷ flag ∷ [];
+  make = λ v.
+      CallerNotice
+      (record { channel = nth v 0; base = nth v 1; kind = nth v 2; direction = nth v 3; number = num (nth v 4); order = nth v 5 });
+}
+
+-- "550600 capture request: CH, len, number, order"
+abbrev pub captureRequest : Row
+captureRequest = record {
+  id = 550600;
+  body = channel ∷ len ∷ number ∷ flag ∷ [];
+  make = λ v. CaptureRequest (record { channel = nth v 0; number = num (nth v 2); order = nth v 3 });
+}
+
+-- "550650 capture reply: CH, result"
+abbrev pub captureReply : Row
+captureReply = record {
+  id = 550650;
+  body = channel ∷ flag ∷ [];
+  make = λ v. CaptureReply (record { channel = nth v 0; result = nth v 1 });
+}
+
+-- "550651 capture state: CH, len, number, state"
+abbrev pub captureState : Row
+captureState = record {
+  id = 550651;
+  body = channel ∷ len ∷ number ∷ flag ∷ [];
+  make = λ v. CaptureState (record { channel = nth v 0; number = num (nth v 2); state = nth v 3 });
+}
+
+abbrev pub table : List Row
+table =
+    timeNotice
+    ∷ operationAnswer
+    ∷ timeRequest
+    ∷ baseArrival
+    ∷ operationRequest
+    ∷ call
+    ∷ callerNotice
+    ∷ captureRequest
+    ∷ captureReply
+    ∷ captureState
+    ∷ []
+
+-- ---- reading
+
+-- the length and the organisation code that a header gives
+abbrev pub heading : List ℕ → List ℕ
+heading s = valuesIn (length4 ∷ code ∷ []) (take 8 (drop 2 s))
+
+-- 8: "under 16 bytes, not "DV", length field wrong, code not 0000 to 1023"
+unfoldable pub headerOk : List ℕ → Bool
+headerOk s =
+    leb 16 (length s)
+    && eqb (getD s 0 0) 68
+    && eqb (getD s 1 0) 86
+    && bodyOk (length4 ∷ code ∷ []) 0 0 (take 8 (drop 2 s))
+    && eqb (nth (heading s) 0) (length s)
+
+abbrev pub headerOf : List ℕ → Header
+headerOf s = cond (headerOk s) (Code (nth (heading s) 1)) Bad
+
+-- 10: "body size or a field's range wrong"
+abbrev pub readRow : Row → ℕ → List ℕ → Reading
+readRow r c b = cond (bodyOk (r .body) 0 0 b) (Telegram c (r .make (valuesIn (r .body) b))) (Refused 10 c (r .id))
+
+-- 9: "identifier not in the table"
+abbrev pub readIn : List Row → ℕ → ℕ → List ℕ → Reading
+readIn [] c i b = Refused 9 c i
+readIn (r ∷ rs) c i b = cond (eqb i (r .id)) (readRow r c b) (readIn rs c i b)
+
+abbrev pub readIdentified : ℕ → List ℕ → Reading
+readIdentified c s =
+    cond (allDigits (take 6 (drop 10 s))) (readIn table c (valueOf (take 6 (drop 10 s))) (drop 16 s)) (Refused 9 c 0)
+
+-- what any bytes read as
+unfoldable pub readTelegram : List ℕ → Reading
+readTelegram s = cond (headerOk s) (readIdentified (nth (heading s) 1) s) (Refused 8 0 0)
+
+-- ---- writing
+
+-- a message's row and its body's numbers
+abbrev pub rowOf : Message → Row
+rowOf (TimeNotice m) = timeNotice
+rowOf (OperationAnswer m) = operationAnswer
+rowOf TimeRequest = timeRequest
+rowOf (BaseArrival m) = baseArrival
+rowOf OperationRequest = operationRequest
+rowOf (Call m) = call
+rowOf (CallerNotice m) = callerNotice
+rowOf (CaptureRequest m) = captureRequest
+rowOf (CaptureReply m) = captureReply
+rowOf (CaptureState m) = captureState
+
+abbrev pub valuesOf : Message → List ℕ
+valuesOf (TimeNotice m) = m .year ∷ m .month ∷ m .day ∷ m .hour ∷ m .minute ∷ m .second ∷ []
+valuesOf (OperationAnswer m) = m .system ∷ m .state ∷ []
+valuesOf TimeRequest = []
+valuesOf (BaseArrival m) = m .channel ∷ m .base ∷ m .kind ∷ m .number .digits ∷ m .order ∷ []
+valuesOf OperationRequest = []
+valuesOf (Call m) =
+    m .channel ∷ m .base ∷ m .kind ∷ m .media ∷ m .direction ∷ m .start ∷ m .reason ∷ 8 ∷ m .source .digits ∷ 8 ∷ m .destination .digits ∷ []
+valuesOf (CallerNotice m) = m .channel ∷ m .base ∷ m .kind ∷ m .direction ∷ m .number .digits ∷ m .order ∷ []
+valuesOf (CaptureRequest m) = m .channel ∷ 8 ∷ m .number .digits ∷ m .order ∷ []
+valuesOf (CaptureReply m) = m .channel ∷ m .result ∷ []
+valuesOf (CaptureState m) = m .channel ∷ 8 ∷ m .number .digits ∷ m .state ∷ []
+
+-- "length of the whole telegram"
+abbrev pub sizeOf : Message → ℕ
+sizeOf m = 16 + size (rowOf m .body)
+
+-- "Header, 16 bytes: "DV"; length of the whole telegram, 4 digits; organisation code, 4 digits; identifier, 6 digits. Then the body"
+abbrev pub headed : ℕ → ℕ → ℕ → List ℕ → List ℕ
+headed n c i b = 68 ∷ 86 ∷ digitsOf 4 n ++ (digitsOf 4 c ++ (digitsOf 6 i ++ b))
+
+unfoldable pub telegramOf : ℕ → Message → List ℕ
+telegramOf c m = headed (sizeOf m) c (rowOf m .id) (bytesOf (rowOf m .body) (valuesOf m))
+
+-- each number can stand in its field
+abbrev pub inRange : Message → Bool
+inRange m = allIn (rowOf m .body) 0 0 (valuesOf m)
+
+abbrev pub sendable : ℕ → Message → Bool
+sendable c m = leb c 1023 && inRange m
+
+-- "The writer gives 10 for a value out of range, then 16": its answer at a buffer's length
+unfoldable pub writeAnswer : ℕ → Message → ℕ → Written
+writeAnswer c m n = cond (sendable c m) (cond (leb (sizeOf m) n) (Count (sizeOf m)) NoRoom) OutOfRange
+
+-- bytes at the front of a buffer: "bytes past a written telegram stay as they were"
+abbrev pub over : List ℕ → List ℕ → List ℕ
+over bs buffer = bs ++ drop (length bs) buffer
+
+-- the buffer after the writer: "each refusal leaves the buffer untouched"
+unfoldable pub writeInto : ℕ → Message → List ℕ → List ℕ
+writeInto c m buffer = cond (sendable c m && leb (sizeOf m) (length buffer)) (over (telegramOf c m) buffer) buffer
+
+-- ---- 01's numbers for the answers
+
+abbrev pub readRefusal : Reading → ℕ
+readRefusal (Telegram c m) = 0
+readRefusal (Refused n c i) = n
+
+abbrev pub writeRefusal : Written → ℕ
+writeRefusal (Count n) = 0
+writeRefusal OutOfRange = 10
+writeRefusal NoRoom = 16
