@@ -1,0 +1,129 @@
+// The state of a channel, its events, and what it sends. Sets of desks are masks: bit 0 is desk 0.
+use telegram::Number;
+ghost use mathlib.Core.Path.{_≡_};
+ghost use Rattle.channel.specs.Rules.{freeChannel};
+
+// The desk that has captured the channel, by its place in the plan.
+pub enum Holder {
+    Nobody,
+    Held(u8),
+}
+
+// The open call, if there is one. `kind` is its type, `recipients` the desks that it was told to (01: its told set).
+pub enum Call {
+    Closed,
+    Open {
+        kind: u32,
+        direction: u32,
+        base: u32,
+        source: Number,
+        recipients: u8,
+    },
+}
+
+// The mobile that talks, if there is one.
+pub enum Arrival {
+    Absent,
+    Present {
+        kind: u32,
+        base: u32,
+        number: Number,
+        recipients: u8,
+    },
+}
+
+pub struct Channel {
+    pub code: u32,
+    // The desks that may use it (01: its mask).
+    pub entitled: u8,
+    pub holder: Holder,
+    pub pressed: bool,
+    pub call: Call,
+    pub arrival: Arrival,
+    // The quiet timer and the release timer: seconds left, 0 when stopped (01: clocks).
+    pub quiet: u8,
+    pub release: u8,
+}
+
+impl Channel {
+    // How long a call goes on without talk.
+    pub const QUIET: u8 = 10;
+
+    // How long a holder keeps the channel without talk.
+    pub const RELEASE: u8 = 120;
+
+    // A channel on which nothing goes on.
+    pub fn new(code: u32, entitled: u8) -> Channel
+        ensures { λ r. ⌜ r ≡ freeChannel code entitled ⌝ }
+    {
+        Channel {
+            code,
+            entitled,
+            holder: Holder::Nobody,
+            pressed: false,
+            call: Call::Closed,
+            arrival: Arrival::Absent,
+            quiet: 0,
+            release: 0,
+        }
+    }
+}
+
+// What happens on a channel. Press and cut are by its holder.
+pub enum Event {
+    Capture(u8),
+    Release(u8),
+    Cut,
+    PressOn,
+    PressOff,
+    MobileOn { base: u32, number: Number },
+    MobileOff,
+    Tick,
+    Handover,
+}
+
+// What a record says, whichever desk gets it: a contact or a telegram about the channel.
+pub enum Notice {
+    PressAnswer {
+        on: u32,
+    },
+    Incoming {
+        on: u32,
+    },
+    BaseArrival {
+        kind: u32,
+        base: u32,
+        number: Number,
+        order: u32,
+    },
+    Call {
+        kind: u32,
+        direction: u32,
+        base: u32,
+        source: Number,
+        start: u32,
+        reason: u32,
+    },
+    CallerNotice {
+        kind: u32,
+        direction: u32,
+        base: u32,
+        number: Number,
+        order: u32,
+    },
+    CaptureReply {
+        result: u32,
+    },
+    // The number is the holder's, and no other desk gets it.
+    CaptureState {
+        holder: u8,
+        number: Number,
+        state: u32,
+    },
+}
+
+// One record to every desk of a set, lowest first. To the empty set nothing is sent.
+pub struct Send {
+    pub recipients: u8,
+    pub notice: Notice,
+}
