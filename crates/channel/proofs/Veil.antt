@@ -1,14 +1,14 @@
 -- What desk B may see of a channel and of what it sends. `hide B` puts the none-number in the place of each number that B was
 -- not told; a rule goes by what is left: `hide (rule (hide c)) ≡ hide (rule c)`.
 -- Assumes nothing.
-use Prim.Native.Nat.{ℕ, zero, suc, _/_, _%_, _^_, _-_}
+use Prim.Native.Nat.{ℕ, zero, suc, _-_}
 use mathlib.Core.List.{List, [], _∷_, _++_}
 use mathlib.Core.Bool.{Bool, true, false, cond}
 use mathlib.Core.Path.{_≡_, refl, ap}
 use lib.Dec.{eqb, leb, ltb}
 use Rattle.telegram.specs.Telegram.{num}
 use Rattle.telegram.specs.declared.message.Number.{Number}
-use Rattle.channel.specs.Rules.{Context, Step, step, to, when, withHolder, withPressed, withCall, withArrival, withQuiet, withRelease, freeChannel, isHeld, heldBy, holderSet, holderPlace, only, isOpen, isPresent, openedBy, startOf, openingSends, endOf, kindOf, pressNotice, pressOffSends, mobileOffSends, freedSends, captureAt, capture, cut, release, pressCall, pressOn, pressOff, mobileRecipients, mobileCall, mobileOn, mobileOff, tickQuiet, tickRelease, tickIdle, tick, handover, happens}
+use Rattle.channel.specs.Rules.{Context, Step, step, to, when, withHolder, withPressed, withCall, withArrival, withQuiet, withRelease, freeChannel, isHeld, heldBy, holderSet, holderPlace, only, isIn, isOpen, isPresent, openedBy, startOf, openingSends, endOf, kindOf, pressNotice, pressOffSends, mobileOffSends, freedSends, captureAt, capture, cut, release, pressCall, pressOn, pressOff, mobileRecipients, mobileCall, mobileOn, mobileOff, tickQuiet, tickRelease, tickIdle, tick, handover, happens}
 use Rattle.channel.specs.declared.state.Holder.{Holder}
 use Rattle.channel.specs.declared.state.Holder.the-variants.{Nobody, Held}
 use Rattle.channel.specs.declared.state.Call.{Call}
@@ -21,11 +21,6 @@ use Rattle.channel.specs.declared.state.Event.the-variants.{Capture, Rel
 use Rattle.channel.specs.declared.state.Notice.{Notice}
 use Rattle.channel.specs.declared.state.Notice.the-variants.{PressAnswer, Incoming, BaseArrival, Call as CallNotice, CallerNotice, CaptureReply, CaptureState}
 use Rattle.channel.specs.declared.state.Send.{Send}
-
--- place B is in the set m
-unfoldable pub isIn : ℕ → ℕ → Bool
-isIn zero m = eqb (m % 2) 1
-isIn (suc j) m = isIn j (m / 2)
 
 -- nobody is in the empty set
 pub none-in : (j : ℕ) → isIn j 0 ≡ false
@@ -96,7 +91,7 @@ module _ (B : ℕ) where
   kind-hide Closed = refl
   kind-hide (Open k d b s m) = refl
 
-  present-hide : (a : Arrival) → isPresent (hideArrival a) ≡ isPresent a
+  pub present-hide : (a : Arrival) → isPresent (hideArrival a) ≡ isPresent a
   present-hide Absent = refl
   present-hide (Present k b n m) = refl
 

@@ -1,5 +1,5 @@
 -- 01, Line rules: what happens on one channel. Each rule gives the channel after it and what it sends, in order.
-use Prim.Native.Nat.{ℕ, _+_, _-_, _^_}
+use Prim.Native.Nat.{ℕ, zero, suc, _-_, _/_, _%_, _^_}
 use mathlib.Core.List.{List, [], _∷_, _++_}
 use mathlib.Core.Bool.{Bool, true, false, cond}
 use lib.Dec.{leb, ltb, eqb}
@@ -40,6 +40,11 @@ up = 2
 -- the set of one desk
 abbrev pub only : ℕ → ℕ
 only d = 2 ^ d
+
+-- a desk is in a set
+unfoldable pub isIn : ℕ → ℕ → Bool
+isIn zero m = eqb (m % 2) 1
+isIn (suc d) m = isIn d (m / 2)
 
 -- what a rule goes by beside the channel: the listeners (01: E, "the set of running entitled desks"), and the number of
 -- the desk that holds the channel or asks for it

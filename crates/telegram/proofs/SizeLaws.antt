@@ -1,8 +1,13 @@
 -- How long telegrams are.
 -- Assumes nothing.
-use Prim.Native.Nat.{_≤_}
+use Prim.Native.Nat.{ℕ, _≤_}
+use mathlib.Core.Path.{_≡_, refl}
+use native.Mathlib.Omega.{arith}
 use lib.Dec.{lit≤}
-use Rattle.telegram.specs.Telegram.{sizeOf}
+use lib.ListN.{length, length-append}
+use Rattle.fields.proofs.DigitLaws.{length-digits}
+use Rattle.fields.proofs.FieldLaws.{length-bytes}
+use Rattle.telegram.specs.Telegram.{rowOf, valuesOf, sizeOf, telegramOf}
 use Rattle.telegram.specs.declared.message.Message.{Message}
 use Rattle.telegram.specs.declared.message.Message.the-variants.{TimeNotice, OperationAnswer, TimeRequest, BaseArrival, OperationRequest, Call, CallerNotice, CaptureRequest, CaptureReply, CaptureState}
 
@@ -18,3 +23,21 @@ size-most (CallerNotice m) = lit≤ tt
 size-most (CaptureRequest m) = lit≤ tt
 size-most (CaptureReply m) = lit≤ tt
 size-most (CaptureState m) = lit≤ tt
+
+-- a body has a number for each field
+counts : (m : Message) → length (rowOf m .body) ≡ length (valuesOf m)
+counts (TimeNotice m) = refl
+counts (OperationAnswer m) = refl
+counts TimeRequest = refl
+counts (BaseArrival m) = refl
+counts OperationRequest = refl
+counts (Call m) = refl
+counts (CallerNotice m) = refl
+counts (CaptureRequest m) = refl
+counts (CaptureReply m) = refl
+counts (CaptureState m) = refl
+
+-- a telegram is as long as it says
+pub length-telegram : (c : ℕ) (m : Message) → length (telegramOf c m) ≡ sizeOf m
+unfolding telegramOf
+length-telegram c m = simp (length-append, length-digits, length-bytes (rowOf m .body) (valuesOf m) (counts m)) (omega arith)

@@ -1,0 +1,5 @@
+pub mod Marked
+pub mod Answers
+pub mod Received
+pub mod Isolation
+pub mod Witness

@@ -1,0 +1,74 @@
+// The state of a line set, and what an entry asks of it.
+use channel::Channel;
+use fields::Digits;
+use telegram::Number;
+ghost use mathlib.Core.Path.{_≡_};
+ghost use Rattle.line_set.specs.State.{newLink, newSet};
+
+// A desk's command link, by its phase: 1 waits for the time, 2 for the operation answer, 3 is running.
+pub struct Link {
+    pub phase: u8,
+}
+
+impl Link {
+    pub fn new() -> Link
+        ensures { λ r. ⌜ r ≡ newLink ⌝ }
+    {
+        Link { phase: 1 }
+    }
+}
+
+pub struct Desk {
+    pub code: u32,
+    pub number: Number,
+    pub link: Link,
+}
+
+// How many desks and channels the plan has.
+pub struct Size {
+    pub desks: u8,
+    pub channels: u8,
+}
+
+// Desks and channels in the order of the plan. Those past the plan's size are there only to fill the arrays.
+pub struct LineSet {
+    pub channels: [Channel; 32],
+    pub desks: [Desk; 4],
+    pub size: Size,
+    pub planned: bool,
+}
+
+impl LineSet {
+    // A set without a plan.
+    pub fn new() -> LineSet
+        ensures { λ r. ⌜ r ≡ newSet ⌝ }
+    {
+        let channel = Channel::new(0, 0);
+        let desk = Desk {
+            code: 0,
+            number: Number::NONE,
+            link: Link { phase: 1 },
+        };
+        LineSet {
+            channels: [channel; 32],
+            desks: [desk; 4],
+            size: Size {
+                desks: 0,
+                channels: 0,
+            },
+            planned: false,
+        }
+    }
+}
+
+// What an entry's bytes ask for: its kind, and what its payload has. What a kind does not have is 0, and a telegram and a
+// plan stay in the bytes. A refusal other than 0 is 1, 2 or 3, and then all else is 0.
+pub struct Entry {
+    pub refusal: u8,
+    pub kind: u8,
+    pub desk: u8,
+    pub channel: u8,
+    pub on: u8,
+    pub base: u8,
+    pub number: Digits,
+}
