@@ -164,16 +164,22 @@ handed-over : (s : LineSet) (e : List ℕ) (x : Entry) → x .kind ≡ 8 → acc
 unfolding accepted onHandover
 handed-over s e x h = rw h
 
-handover-after : (s : LineSet) (i : Item) → readEntry (i .entry) .kind ≡ 8 → stepBy s i .refusal ≡ 0 → stepBy s i .after ≡ newSet
+-- an accepted entry: no row of the table holds, and the set after is the rule's
+pub accepted-after : (s : LineSet) (i : Item) → stepBy s i .refusal ≡ 0
+    → (refusalOf s (i .entry) (readEntry (i .entry)) ≡ 0) × (stepBy s i .after ≡ accepted s (i .entry) (readEntry (i .entry)) .after)
 unfolding stepOf
-handover-after s i h z =
+accepted-after s i z =
     go (eqb (refusalOf s (i .entry) (readEntry (i .entry))) 0) refl (leb (spaceOf (accepted s (i .entry) (readEntry (i .entry)) .sent)) (i .room)) refl
   where
     go : (t : Bool) → eqb (refusalOf s (i .entry) (readEntry (i .entry))) 0 ≡ t
-        → (u : Bool) → leb (spaceOf (accepted s (i .entry) (readEntry (i .entry)) .sent)) (i .room) ≡ u → stepBy s i .after ≡ newSet
-    go true k true l = rw (k, l) (handed-over s (i .entry) (readEntry (i .entry)) h)
+        → (u : Bool) → leb (spaceOf (accepted s (i .entry) (readEntry (i .entry)) .sent)) (i .room) ≡ u
+        → (refusalOf s (i .entry) (readEntry (i .entry)) ≡ 0) × (stepBy s i .after ≡ accepted s (i .entry) (readEntry (i .entry)) .after)
+    go true k true l = (eqb-true _ 0 k, rw (k, l))
     go true k false l = absurd (let f : _≡_ {A = ℕ} 16 0 = rw (k, l) at z in omega arith)
     go false k u l = absurd (let f : refusalOf s (i .entry) (readEntry (i .entry)) ≡ 0 = rw k at z in false≢true (sym k ∙ eq-eqb _ 0 f))
+
+handover-after : (s : LineSet) (i : Item) → readEntry (i .entry) .kind ≡ 8 → stepBy s i .refusal ≡ 0 → stepBy s i .after ≡ newSet
+handover-after s i h z = accepted-after s i z .1 ∙ handed-over s (i .entry) (readEntry (i .entry)) h
 
 after-append : (s : LineSet) (f : List Item) (i : Item) → after s (f ++ (i ∷ [])) ≡ stepBy (after s f) i .after
 unfolding after

@@ -3,3 +3,4 @@ pub mod Answers
 pub mod Received
 pub mod Isolation
 pub mod Witness
+pub mod Ticks

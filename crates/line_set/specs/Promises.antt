@@ -4,14 +4,18 @@ use mathlib.Core.List.{List, [], _∷_, _++_, map}
 use mathlib.Core.Bool.{true, false}
 use mathlib.Core.Path.{_≡_}
 use lib.Dec.{eqb}
-use lib.ListN.{length}
+use lib.ListN.{length, replicate}
 use Rattle.fields.specs.Digits.{digitsOf, allDigits, valueOf}
 use Rattle.telegram.specs.Promises.{dv}
+use Rattle.channel.specs.Rules.{endOf, freedSends}
+use Rattle.channel.specs.declared.state.Arrival.the-variants.{Absent}
+use Rattle.channel.specs.declared.state.Channel.{Channel}
 use Rattle.channel.specs.declared.state.Holder.{Holder}
 use Rattle.channel.specs.declared.state.Holder.the-variants.{Nobody, Held}
 use Rattle.line_set.specs.State.{newSet, channelAt}
 use Rattle.line_set.specs.Entries.{readEntry}
-use Rattle.line_set.specs.Records.{measuredBytes}
+use Rattle.line_set.specs.Records.{measuredBytes, delivered, recordsOf}
+use Rattle.line_set.specs.SetRules.{contextOf}
 use Rattle.line_set.specs.Feeds.{Outcome, Item, stepOf, stepBy, run, after, Seen, views}
 use Rattle.line_set.specs.declared.state.LineSet.{LineSet}
 
@@ -173,3 +177,24 @@ pub record Speaks : Type 0 where
   pub related : Related 1 newSet (sharedFeed 990007) (sharedFeed 990008)
   pub differ : sharedFeed 990007 ≡ sharedFeed 990008 → ⊥
   pub receives : map (λ (v : Seen). length (v .records)) (views 1 newSet (sharedFeed 990007)) ≡ 21 ∷ 0 ∷ 21 ∷ 0 ∷ 0 ∷ 34 ∷ 0 ∷ []
+
+-- ---- The marked case of the ticks, for every set that fits its words (`Ticks.ticked`)
+
+-- ticks, each with the length of its buffer
+abbrev pub ticks : List ℕ → List Item
+ticks [] = []
+ticks (room ∷ rooms) = record { entry = entryOf 6 []; room = room } ∷ ticks rooms
+
+abbrev pub AllAccepted : List Outcome → Type 0
+AllAccepted [] = Unit {0}
+AllAccepted (o ∷ os) = (o .refusal ≡ 0) × AllAccepted os
+
+-- "After the holder's press off with no arrival, one channel planned, and accepted ticks only, 9 send nothing, the tenth ends the
+-- call, and the 130th releases."
+abbrev pub Ticked : Type 0
+Ticked =
+    (s : LineSet) (c : Channel) (rest : List Channel) (d : ℕ) → s .size .channels ≡ 1 → s .channels ≡ c ∷ rest → c .holder ≡ Held d → c .arrival ≡ Absent
+    → (i : Item) → readEntry (i .entry) .kind ≡ 2 → readEntry (i .entry) .on ≡ 0 → stepBy s i .refusal ≡ 0
+    → (rooms : List ℕ) → length rooms ≡ 130 → AllAccepted (run (stepBy s i .after) (ticks rooms))
+    → map (λ (o : Outcome). o .bytes) (run (stepBy s i .after) (ticks rooms))
+    ≡ replicate 9 [] ++ (recordsOf (s .desks) (delivered (c .code) (endOf 3 (c .call))) ∷ replicate 119 [] ++ (recordsOf (s .desks) (delivered (c .code) (freedSends (contextOf s c d) c)) ∷ []))
