@@ -4,3 +4,5 @@ pub mod Received
 pub mod Isolation
 pub mod Witness
 pub mod Ticks
+pub mod Ranges
+pub mod Readable

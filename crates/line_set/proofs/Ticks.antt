@@ -88,7 +88,7 @@ ticking code entitled d n k rest ds = refl
 
 -- ---- an accepted press off on the one channel
 
-first-none : (n : ℕ) (row : Test) (rows : List (ℕ × Test)) (s : LineSet) (e : List ℕ) (r : Reading) (x : Entry) → (n ≡ 0 → ⊥)
+pub first-none : (n : ℕ) (row : Test) (rows : List (ℕ × Test)) (s : LineSet) (e : List ℕ) (r : Reading) (x : Entry) → (n ≡ 0 → ⊥)
     → firstOf ((n, row) ∷ rows) s e r x ≡ 0 → (row s e r x ≡ false) × (firstOf rows s e r x ≡ 0)
 unfolding firstOf
 first-none n row rows s e r x h z = go (row s e r x) refl
@@ -97,7 +97,7 @@ first-none n row rows s e r x h z = go (row s e r x) refl
     go true k = absurd (h (rw k at z))
     go false k = (k, rw k at z)
 
-table-none : (s : LineSet) (e : List ℕ) (x : Entry) → refusalOf s e x ≡ 0 → firstOf table s e (readTelegram (telegramIn e)) x ≡ 0
+pub table-none : (s : LineSet) (e : List ℕ) (x : Entry) → refusalOf s e x ≡ 0 → firstOf table s e (readTelegram (telegramIn e)) x ≡ 0
 unfolding refusalOf
 table-none s e x z = go (eqb (x .refusal) 0) refl
   where

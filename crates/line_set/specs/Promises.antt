@@ -4,19 +4,24 @@ use mathlib.Core.List.{List, [], _∷_, _++_, map}
 use mathlib.Core.Bool.{true, false}
 use mathlib.Core.Path.{_≡_}
 use lib.Dec.{eqb}
-use lib.ListN.{length, replicate}
+use lib.ListN.{length, replicate, getD}
 use Rattle.fields.specs.Digits.{digitsOf, allDigits, valueOf}
+use Rattle.telegram.specs.Telegram.{readTelegram, telegramOf}
 use Rattle.telegram.specs.Promises.{dv}
+use Rattle.telegram.specs.declared.message.Message.{Message}
+use Rattle.telegram.specs.declared.message.Reading.the-variants.{Telegram}
+use Rattle.channel.specs.Notices.{telegram}
 use Rattle.channel.specs.Rules.{endOf, freedSends}
 use Rattle.channel.specs.declared.state.Arrival.the-variants.{Absent}
 use Rattle.channel.specs.declared.state.Channel.{Channel}
 use Rattle.channel.specs.declared.state.Holder.{Holder}
 use Rattle.channel.specs.declared.state.Holder.the-variants.{Nobody, Held}
-use Rattle.line_set.specs.State.{newSet, channelAt}
+use Rattle.line_set.specs.State.{newSet, noDesk, channelAt}
 use Rattle.line_set.specs.Entries.{readEntry}
-use Rattle.line_set.specs.Records.{measuredBytes, delivered, recordsOf}
-use Rattle.line_set.specs.SetRules.{contextOf}
+use Rattle.line_set.specs.Records.{measuredBytes, Delivery, delivered, recordsOf}
+use Rattle.line_set.specs.SetRules.{contextOf, accepted}
 use Rattle.line_set.specs.Feeds.{Outcome, Item, stepOf, stepBy, run, after, Seen, views}
+use Rattle.line_set.specs.declared.state.Desk.{Desk}
 use Rattle.line_set.specs.declared.state.LineSet.{LineSet}
 
 -- 1. An answer with a refusal number other than 0 has count 0, the same set, and no byte written (`Answers.refused`).
@@ -198,3 +203,19 @@ Ticked =
     → (rooms : List ℕ) → length rooms ≡ 130 → AllAccepted (run (stepBy s i .after) (ticks rooms))
     → map (λ (o : Outcome). o .bytes) (run (stepBy s i .after) (ticks rooms))
     ≡ replicate 9 [] ++ (recordsOf (s .desks) (delivered (c .code) (endOf 3 (c .call))) ∷ replicate 119 [] ++ (recordsOf (s .desks) (delivered (c .code) (freedSends (contextOf s c d) c)) ∷ []))
+
+-- ---- 5. What is sent reads as meant (`Readable.readable`)
+
+-- every telegram of some deliveries reads, under its desk's code, as the message that the rule names
+abbrev pub AllRead : List Desk → List Delivery → Type 0
+AllRead ds [] = Unit {0}
+AllRead ds (v ∷ vs) =
+    ((d : ℕ) (m : Message) → v .content d ≡ telegram m → readTelegram (telegramOf (getD ds d noDesk .code) m) ≡ Telegram (getD ds d noDesk .code) m)
+    × AllRead ds vs
+
+-- In every state that a feed from a new set brings about, every telegram that an accepted entry sends reads, under its desk's
+-- code, as the message that the rule names.
+abbrev pub Readable : Type 0
+Readable =
+    (f : List Item) (i : Item) → stepBy (after newSet f) i .refusal ≡ 0
+    → AllRead (accepted (after newSet f) (i .entry) (readEntry (i .entry)) .desks) (accepted (after newSet f) (i .entry) (readEntry (i .entry)) .sent)
