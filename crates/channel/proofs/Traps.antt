@@ -7,11 +7,13 @@ use mathlib.Core.Path.{_≡_, refl, ap, _∙_}
 use lib.Dec.{eqb, ltb, leb}
 use lib.ListN.{replicate}
 use Rattle.telegram.specs.declared.message.Number.{Number}
-use Rattle.channel.specs.Rules.{Context, Step, to, quietTime, releaseTime, cut, pressOff, mobileOff, tick, tickIdle, tickQuiet, tickRelease, endOf, freedSends, isPresent}
-use Rattle.channel.specs.Promises.{OffToTheTold, NumberForTheHolder, ArrivalOutlivesACut, OneTimerAtATime, TenAndAHundredAndThirty, sentByTicks, recipientsOf}
+use Rattle.channel.specs.Rules.{Context, Step, only, mobileOn, mobileRecipients, mobileCall, openingSends, to, quietTime, releaseTime, cut, pressOff, mobileOff, tick, tickIdle, tickQuiet, tickRelease, endOf, freedSends, isPresent}
+use Rattle.channel.specs.Promises.{AllTo, OnToTheHolder, OffToTheTold, NumberForTheHolder, ArrivalOutlivesACut, OneTimerAtATime, TenAndAHundredAndThirty, sentByTicks, recipientsOf}
 use Rattle.channel.specs.declared.state.Holder.{Holder}
 use Rattle.channel.specs.declared.state.Holder.the-variants.{Nobody, Held}
 use Rattle.channel.specs.declared.state.Call.{Call}
+use Rattle.channel.specs.declared.state.Call.the-variants.{Closed, Open}
+use Rattle.channel.specs.declared.state.Send.{Send}
 use Rattle.channel.specs.declared.state.Arrival.{Arrival}
 use Rattle.channel.specs.declared.state.Arrival.the-variants.{Absent, Present}
 use Rattle.channel.specs.declared.state.Channel.{Channel}
@@ -20,6 +22,22 @@ use Rattle.channel.specs.declared.state.Notice.the-variants.{CaptureStat
 pub off-to-the-told : OffToTheTold
 unfolding mobileOff
 off-to-the-told c k b m n e = rw e
+
+to-append : (m : ℕ) (ss ts : List Send) → AllTo m ss → AllTo m ts → AllTo m (ss ++ ts)
+to-append m [] ts a b = b
+to-append m (s ∷ ss) ts a b = (a .0, to-append m ss ts (a .1) b)
+
+opening-to : (k : Call) (b m : ℕ) (n : Number) → AllTo m (openingSends k (mobileCall b n m))
+opening-to Closed b m n = (refl, tt)
+opening-to (Open k d b′ s m′) b m n = tt
+
+pub on-to-the-holder : OnToTheHolder
+unfolding mobileOn
+on-to-the-holder x b n c d h =
+    let e : mobileRecipients (c .holder) (x .listeners) ≡ only d = rw h in
+    let m = mobileRecipients (c .holder) (x .listeners) in
+    let o : AllTo (only d) (openingSends (c .call) (mobileCall b n m)) = rw e (opening-to (c .call) b (only d) n) in
+    (e, (e, to-append (only d) (openingSends (c .call) (mobileCall b n m)) _ o (e, tt)))
 
 pub number-for-the-holder : NumberForTheHolder
 number-for-the-holder desk channel holder state n n′ h = rw h

@@ -1,5 +1,5 @@
 -- What is promised of the line rules of one channel, for every channel and every context. `proofs/` proves each under the
--- name given with it. Each of the first four shuts out one of 01's traps on the bench.
+-- name given with it. Most of them shut out one of 01's traps on the bench.
 use Prim.Native.Nat.{ℕ, zero, suc}
 use mathlib.Core.List.{List, [], _∷_, _++_}
 use mathlib.Core.Bool.{true, false}
@@ -8,7 +8,7 @@ use lib.Dec.{eqb, ltb}
 use lib.ListN.{replicate}
 use Rattle.telegram.specs.Telegram.{num}
 use Rattle.telegram.specs.declared.message.Number.{Number}
-use Rattle.channel.specs.Rules.{Context, cut, pressOff, mobileOff, tick, endOf, freedSends}
+use Rattle.channel.specs.Rules.{Context, only, cut, pressOff, mobileOn, mobileOff, tick, endOf, freedSends}
 use Rattle.channel.specs.Notices.{contentFor}
 use Rattle.channel.specs.declared.state.Holder.the-variants.{Held}
 use Rattle.channel.specs.declared.state.Arrival.the-variants.{Absent, Present}
@@ -24,6 +24,15 @@ recipientsOf (s ∷ ss) = s .recipients ∷ recipientsOf ss
 abbrev pub OffToTheTold : Type 0
 OffToTheTold =
     (c : Channel) (k b m : ℕ) (n : Number) → c .arrival ≡ Present k b n m → recipientsOf (mobileOff c .sends) ≡ m ∷ m ∷ m ∷ []
+
+-- all of these go to one set
+abbrev pub AllTo : ℕ → List Send → Type 0
+AllTo m [] = Unit {0}
+AllTo m (s ∷ ss) = (s .recipients ≡ m) × AllTo m ss
+
+-- A mobile on, on a held channel, goes to the holder alone (`Traps.on-to-the-holder`).
+abbrev pub OnToTheHolder : Type 0
+OnToTheHolder = (x : Context) (b : ℕ) (n : Number) (c : Channel) (d : ℕ) → c .holder ≡ Held d → AllTo (only d) (mobileOn x b n c .sends)
 
 -- A 550651 says the same to a desk that does not hold, whatever the holder's number (`Traps.number-for-the-holder`).
 abbrev pub NumberForTheHolder : Type 0

@@ -3,6 +3,9 @@ pub mod Answers
 pub mod Received
 pub mod Isolation
 pub mod Witness
+pub mod Each
+pub mod Rows
 pub mod Ticks
 pub mod Ranges
 pub mod Readable
+pub mod Timers

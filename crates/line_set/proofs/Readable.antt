@@ -29,20 +29,21 @@ use Rattle.channel.specs.declared.state.Send.{Send}
 use Rattle.line_set.specs.State.{newSet, noDesk, noChannel, deskAt, channelsOf, placeIn, channelAt, withPhase}
 use Rattle.line_set.specs.Entries.{byte, word, readEntry, measured, bad, payload, payloadOk, sizeOk, telegramIn, planIn}
 use Rattle.line_set.specs.Plan.{deskOk, desksOk, desksIn, channelsOk, channelsIn, deskCount, desksPart, channelCount, channelsPart, distinct, planOk, filled, setOf}
-use Rattle.line_set.specs.Refusals.{refusalOf, row4, row5, row6, table, firstOf}
+use Rattle.line_set.specs.Refusals.{refusalOf}
 use Rattle.line_set.specs.Records.{Delivery, delivered}
 use Rattle.line_set.specs.SetRules.{Effect, effect, telegramTo, contextOf, happensIn, nextsOf, sendsOf, onChannel, byHolder, onTick, onHandover, onPlan, onReading, timeTaken, answerTaken, numberIn, accepted}
 use Rattle.line_set.specs.Feeds.{Item, stepOf, stepBy, after}
-use Rattle.line_set.specs.Invariant.{NumberOk, ChannelOk, DeskOk, EachChannel, EachDesk, SetOk}
-use Rattle.line_set.specs.Promises.{AllRead, Readable}
+use Rattle.line_set.specs.Invariant.{NumberOk, ChannelOk, DeskOk, Each, SetOk}
+use Rattle.line_set.specs.Promises.{AllRead, Readable, InRange}
 use Rattle.line_set.specs.declared.state.Desk.{Desk}
 use Rattle.line_set.specs.declared.state.LineSet.{LineSet}
 use Rattle.line_set.specs.declared.state.Entry.{Entry}
 use Rattle.line_set.proofs.Answers.{refused, accepted-after}
-use Rattle.line_set.proofs.Ticks.{first-none, table-none}
+use Rattle.line_set.proofs.Each.{each-at, each-set, each-take, each-drop, each-append, each-same}
+use Rattle.line_set.proofs.Rows.{rows-fail}
 use Rattle.line_set.proofs.Ranges.{ContentOk, NoticeOk, in-range, SendsOk, StepOk, EventOk, happens-ok}
 
--- ---- lists
+-- ---- what fills the arrays
 
 no-desk : DeskOk noDesk
 no-desk = record { code-ok = omega arith; number-ok = omega arith }
@@ -50,51 +51,14 @@ no-desk = record { code-ok = omega arith; number-ok = omega arith }
 no-channel : ChannelOk noChannel
 no-channel = record { code-ok = omega arith; call-ok = tt; arrival-ok = tt }
 
-desk-ok : (ds : List Desk) → EachDesk ds → (d : ℕ) → DeskOk (getD ds d noDesk)
-desk-ok [] o d = no-desk
-desk-ok (k ∷ ds) o zero = o .0
-desk-ok (k ∷ ds) o (suc d) = desk-ok ds (o .1) d
+desk-ok : (ds : List Desk) → Each DeskOk ds → (d : ℕ) → DeskOk (getD ds d noDesk)
+desk-ok ds o d = each-at DeskOk ds noDesk o no-desk d
 
-desk-set : (ds : List Desk) (d : ℕ) (k : Desk) → EachDesk ds → DeskOk k → EachDesk (set ds d k)
-desk-set [] d k o p = tt
-desk-set (j ∷ ds) zero k o p = (p, o .1)
-desk-set (j ∷ ds) (suc d) k o p = (o .0, desk-set ds d k (o .1) p)
+no-desks : (n : ℕ) → Each DeskOk (replicate n noDesk)
+no-desks n = each-same DeskOk n noDesk no-desk
 
-channel-ok : (cs : List Channel) → EachChannel cs → (i : ℕ) → ChannelOk (getD cs i noChannel)
-channel-ok [] o i = no-channel
-channel-ok (c ∷ cs) o zero = o .0
-channel-ok (c ∷ cs) o (suc i) = channel-ok cs (o .1) i
-
-channel-set : (cs : List Channel) (i : ℕ) (c : Channel) → EachChannel cs → ChannelOk c → EachChannel (set cs i c)
-channel-set [] i c o p = tt
-channel-set (d ∷ cs) zero c o p = (p, o .1)
-channel-set (d ∷ cs) (suc i) c o p = (o .0, channel-set cs i c (o .1) p)
-
-channel-take : (n : ℕ) (cs : List Channel) → EachChannel cs → EachChannel (take n cs)
-channel-take zero cs o = tt
-channel-take (suc n) [] o = tt
-channel-take (suc n) (c ∷ cs) o = (o .0, channel-take n cs (o .1))
-
-channel-drop : (n : ℕ) (cs : List Channel) → EachChannel cs → EachChannel (drop n cs)
-channel-drop zero cs o = o
-channel-drop (suc n) [] o = tt
-channel-drop (suc n) (c ∷ cs) o = channel-drop n cs (o .1)
-
-channel-append : (cs ds : List Channel) → EachChannel cs → EachChannel ds → EachChannel (cs ++ ds)
-channel-append [] ds o p = p
-channel-append (c ∷ cs) ds o p = (o .0, channel-append cs ds (o .1) p)
-
-no-channels : (n : ℕ) → EachChannel (replicate n noChannel)
-no-channels zero = tt
-no-channels (suc n) = (no-channel, no-channels n)
-
-desk-append : (ks ds : List Desk) → EachDesk ks → EachDesk ds → EachDesk (ks ++ ds)
-desk-append [] ds o p = p
-desk-append (k ∷ ks) ds o p = (o .0, desk-append ks ds (o .1) p)
-
-no-desks : (n : ℕ) → EachDesk (replicate n noDesk)
-no-desks zero = tt
-no-desks (suc n) = (no-desk, no-desks n)
+no-channels : (n : ℕ) → Each ChannelOk (replicate n noChannel)
+no-channels n = each-same ChannelOk n noChannel no-channel
 
 -- ---- what is sent reads
 
@@ -104,7 +68,7 @@ content-reads code (telegram m′) h k m e =
     reads-back code m (simp (le-leb code 1023 h, ap inRange (sym q) ∙ k))
 content-reads code (contact k′ ch on) h k m e = absurd (let z : _≡_ {A = ℕ} 0 1 = cc in omega arith)
 
-sent-reads : (ds : List Desk) → EachDesk ds → (ch : ℕ) → ch ≤ 99 → (ss : List Send) → SendsOk ss → AllRead ds (delivered ch ss)
+sent-reads : (ds : List Desk) → Each DeskOk ds → (ch : ℕ) → ch ≤ 99 → (ss : List Send) → SendsOk ss → AllRead ds (delivered ch ss)
 unfolding delivered
 sent-reads ds o ch h [] k = tt
 sent-reads ds o ch h (s ∷ ss) k =
@@ -115,7 +79,7 @@ read-append ds [] ws a b = b
 read-append ds (v ∷ vs) ws a b = (a .0, read-append ds vs ws (a .1) b)
 
 -- a telegram that is in range whatever it says
-plain-reads : (ds : List Desk) → EachDesk ds → (to : ℕ) (m : Message) → inRange m ≡ true → AllRead ds (telegramTo to m)
+plain-reads : (ds : List Desk) → Each DeskOk ds → (to : ℕ) (m : Message) → inRange m ≡ true → AllRead ds (telegramTo to m)
 plain-reads ds o to m h = (λ d m′ e. content-reads (getD ds d noDesk .code) (telegram m) (desk-ok ds o d .code-ok) h m′ e, tt)
 
 -- ---- effects
@@ -133,7 +97,7 @@ module _ (s : LineSet) (ok : SetOk s) where
   own-ok d = desk-ok (s .desks) (ok .desks-ok) d .number-ok
 
   at-ok : (ch : ℕ) → ChannelOk (channelAt s ch)
-  at-ok ch = channel-ok (channelsOf s) (channel-take (s .size .channels) (s .channels) (ok .channels-ok)) (placeIn s ch)
+  at-ok ch = each-at ChannelOk (channelsOf s) noChannel (each-take ChannelOk (s .size .channels) (s .channels) (ok .channels-ok)) no-channel (placeIn s ch)
 
   on-ok : (ch d : ℕ) (v : Event) → EventOk v → EffectOk (onChannel s ch d v)
   unfolding onChannel
@@ -141,11 +105,11 @@ module _ (s : LineSet) (ok : SetOk s) where
       let c = channelAt s ch in
       let k = happens-ok (contextOf s c d) (own-ok d) c (at-ok ch) v h in
       record {
-        set-ok = record { desks-ok = ok .desks-ok; channels-ok = channel-set (s .channels) (placeIn s ch) _ (ok .channels-ok) (k .next-ok) };
+        set-ok = record { desks-ok = ok .desks-ok; channels-ok = each-set ChannelOk (s .channels) (placeIn s ch) _ (ok .channels-ok) (k .next-ok) };
         sent-ok = sent-reads (s .desks) (ok .desks-ok) (c .code) (at-ok ch .code-ok) _ (k .sends-ok);
       }
 
-  all-ok : (v : Event) → EventOk v → (cs : List Channel) → EachChannel cs → EachChannel (nextsOf s v cs) × AllRead (s .desks) (sendsOf s v cs)
+  all-ok : (v : Event) → EventOk v → (cs : List Channel) → Each ChannelOk cs → Each ChannelOk (nextsOf s v cs) × AllRead (s .desks) (sendsOf s v cs)
   unfolding nextsOf sendsOf
   all-ok v h [] o = (tt, tt)
   all-ok v h (c ∷ cs) o =
@@ -153,15 +117,15 @@ module _ (s : LineSet) (ok : SetOk s) where
       let r = all-ok v h cs (o .1) in
       ((k .next-ok, r .0), read-append (s .desks) (delivered (c .code) (happensIn s v c .sends)) (sendsOf s v cs) (sent-reads (s .desks) (ok .desks-ok) (c .code) (o .0 .code-ok) (happensIn s v c .sends) (k .sends-ok)) (r .1))
 
-  planned-ok : EachChannel (channelsOf s)
-  planned-ok = channel-take (s .size .channels) (s .channels) (ok .channels-ok)
+  planned-ok : Each ChannelOk (channelsOf s)
+  planned-ok = each-take ChannelOk (s .size .channels) (s .channels) (ok .channels-ok)
 
   tick-ok : EffectOk (onTick s)
   unfolding onTick
   tick-ok =
       let r = all-ok Tick tt (channelsOf s) planned-ok in
       record {
-        set-ok = record { desks-ok = ok .desks-ok; channels-ok = channel-append (nextsOf s Tick (channelsOf s)) _ (r .0) (channel-drop (s .size .channels) (s .channels) (ok .channels-ok)) };
+        set-ok = record { desks-ok = ok .desks-ok; channels-ok = each-append ChannelOk (nextsOf s Tick (channelsOf s)) _ (r .0) (each-drop ChannelOk (s .size .channels) (s .channels) (ok .channels-ok)) };
         sent-ok = r .1;
       }
 
@@ -175,7 +139,7 @@ module _ (s : LineSet) (ok : SetOk s) where
   phase-ok : (d p : ℕ) → SetOk (withPhase d p s)
   phase-ok d p =
       let k = desk-ok (s .desks) (ok .desks-ok) d in
-      record { desks-ok = desk-set (s .desks) d _ (ok .desks-ok) (record { code-ok = k .code-ok; number-ok = k .number-ok }); channels-ok = ok .channels-ok }
+      record { desks-ok = each-set DeskOk (s .desks) d _ (ok .desks-ok) (record { code-ok = k .code-ok; number-ok = k .number-ok }); channels-ok = ok .channels-ok }
 
   time-ok : (d : ℕ) → EffectOk (timeTaken s d)
   unfolding allIn
@@ -214,7 +178,7 @@ eight-below b l h =
 eight-taken : (b : List ℕ) → length (take 8 b) ≤ 8
 eight-taken b = simp length-take (omega arith)
 
-desks-in : (n : ℕ) (b : List ℕ) → desksOk n b ≡ true → EachDesk (desksIn n b)
+desks-in : (n : ℕ) (b : List ℕ) → desksOk n b ≡ true → Each DeskOk (desksIn n b)
 unfolding desksOk desksIn
 desks-in zero b h = tt
 desks-in (suc n) b h =
@@ -223,7 +187,7 @@ desks-in (suc n) b h =
     let g = both (leb (word b 0) 1023) (allDigits (take 8 (drop 2 b))) (f .0) in
     (record { code-ok = leb-true _ _ (g .0); number-ok = eight-below (take 8 (drop 2 b)) (eight-taken (drop 2 b)) (g .1) }, desks-in n (drop 10 b) (a .1))
 
-channels-in : (n low desks : ℕ) (b : List ℕ) → channelsOk n low desks b ≡ true → EachChannel (channelsIn n b)
+channels-in : (n low desks : ℕ) (b : List ℕ) → channelsOk n low desks b ≡ true → Each ChannelOk (channelsIn n b)
 unfolding channelsOk channelsIn
 channels-in zero low desks b h = tt
 channels-in (suc n) low desks b h =
@@ -241,8 +205,8 @@ plan-ok p h =
     both (between 1 4 (deskCount p) && between 1 32 (channelCount p) && eqb (length p) (2 + 10 * deskCount p + 2 * channelCount p)) (desksOk (deskCount p) (desksPart p)) (f .0) in
     let ds = desks-in (deskCount p) (desksPart p) (g .1) in
     let cs = channels-in (channelCount p) 0 (deskCount p) (channelsPart p) (a .1) in
-    let d = desk-append (desksIn (deskCount p) (desksPart p)) _ ds (no-desks (4 - length (desksIn (deskCount p) (desksPart p)))) in
-    let c = channel-append (channelsIn (channelCount p) (channelsPart p)) _ cs (no-channels (32 - length (channelsIn (channelCount p) (channelsPart p)))) in
+    let d = each-append DeskOk (desksIn (deskCount p) (desksPart p)) _ ds (no-desks (4 - length (desksIn (deskCount p) (desksPart p)))) in
+    let c = each-append ChannelOk (channelsIn (channelCount p) (channelsPart p)) _ cs (no-channels (32 - length (channelsIn (channelCount p) (channelsPart p)))) in
     record { set-ok = record { desks-ok = d; channels-ok = c }; sent-ok = plain-reads (setOf p .desks) d (2 ^ deskCount p - 1) TimeRequest refl }
 
 -- ---- what an entry asks for
@@ -289,11 +253,8 @@ asked-ok e = go (measured e) (eqb (byte e 2) 1) (payloadOk (byte e 3) e) refl
 -- an accepted plan keeps the rules of a plan: row 6
 plan-kept : (s : LineSet) (e : List ℕ) (x : Entry) → refusalOf s e x ≡ 0 → eqb (x .kind) 7 ≡ true → planOk (planIn e) ≡ true
 plan-kept s e x z k =
-    let r = readTelegram (telegramIn e) in
-    let t4 = first-none 4 row4 _ s e r x (λ p. omega arith) (table-none s e x z) in
-    let t5 = first-none 5 row5 _ s e r x (λ p. omega arith) (t4 .1) in
-    let t6 = first-none 6 row6 _ s e r x (λ p. omega arith) (t5 .1) in
-    go (planOk (planIn e)) (rw k at (t6 .0))
+    let t = rows-fail s e x z in
+    go (planOk (planIn e)) (rw k at (t .1 .1 .0))
   where
     go : (t : Bool) → not t ≡ false → t ≡ true
     go true h = refl
@@ -325,15 +286,18 @@ step-ok s i ok = go (eqb (stepBy s i .refusal) 0) refl
         rw (f .1) (accepted-ok s ok (i .entry) (readEntry (i .entry)) (asked-ok (i .entry)) (f .0) .set-ok)
     go false h = rw (refused s (i .entry) (i .room) (λ p. false≢true (sym h ∙ eq-eqb _ 0 p)) .1) ok
 
-pub in-range-after : (s : LineSet) (f : List Item) → SetOk s → SetOk (after s f)
+feed-ok : (s : LineSet) (f : List Item) → SetOk s → SetOk (after s f)
 unfolding after
-in-range-after s [] ok = ok
-in-range-after s (i ∷ f) ok = in-range-after (stepBy s i .after) f (step-ok s i ok)
+feed-ok s [] ok = ok
+feed-ok s (i ∷ f) ok = feed-ok (stepBy s i .after) f (step-ok s i ok)
 
 new-ok : SetOk newSet
 new-ok = record { desks-ok = no-desks 4; channels-ok = no-channels 32 }
 
+pub in-range-after : InRange
+in-range-after f = feed-ok newSet f new-ok
+
 pub readable : Readable
 readable f i z =
     let s = after newSet f in
-    accepted-ok s (in-range-after newSet f new-ok) (i .entry) (readEntry (i .entry)) (asked-ok (i .entry)) (accepted-after s i z .0) .sent-ok
+    accepted-ok s (in-range-after f) (i .entry) (readEntry (i .entry)) (asked-ok (i .entry)) (accepted-after s i z .0) .sent-ok

@@ -8,8 +8,6 @@ use native.Mathlib.Omega.{arith}
 use lib.Dec.{eqb, leb, ltb}
 use lib.ListN.{length, replicate, take, drop, set}
 use borrow.Author.Tests.{eqb-true, eq-eqb, ltb-true}
-use Rattle.telegram.specs.Telegram.{readTelegram}
-use Rattle.telegram.specs.declared.message.Reading.{Reading}
 use Rattle.channel.specs.Rules.{Context, isIn, Step, to, happens, pressOff, tick, tickIdle, tickQuiet, tickRelease, quietTime, releaseTime, endOf, freedSends, holderPlace}
 use Rattle.channel.specs.declared.state.Holder.the-variants.{Held}
 use Rattle.channel.specs.declared.state.Call.{Call}
@@ -18,13 +16,14 @@ use Rattle.channel.specs.declared.state.Channel.{Channel}
 use Rattle.channel.specs.declared.state.Event.the-variants.{PressOn, PressOff, Tick}
 use Rattle.channel.specs.declared.state.Send.{Send}
 use Rattle.line_set.specs.State.{channelsOf, placeOf, placeIn, hasChannel, channelAt, listenersOf, withChannels}
-use Rattle.line_set.specs.Entries.{readEntry, telegramIn}
-use Rattle.line_set.specs.Refusals.{Test, row4, row5, row6, row7, row8, row9, row10, row11, row12, firstOf, refusalOf, table}
+use Rattle.line_set.specs.Entries.{readEntry}
+use Rattle.line_set.specs.Refusals.{firstOf, refusalOf}
 use Rattle.line_set.specs.Records.{Delivery, delivered, recordsOf, spaceOf}
 use Rattle.line_set.specs.SetRules.{Effect, contextOf, nextsOf, sendsOf, onChannel, byHolder, onTick, accepted}
 use Rattle.line_set.specs.Feeds.{Outcome, Item, emit, stepOf, stepBy, run}
 use Rattle.line_set.specs.Promises.{entryOf, ticks, AllAccepted, Ticked}
 use Rattle.line_set.proofs.Answers.{accepted-after}
+use Rattle.line_set.proofs.Rows.{rows-fail}
 use Rattle.line_set.specs.declared.state.Desk.{Desk}
 use Rattle.line_set.specs.declared.state.Size.{Size}
 use Rattle.line_set.specs.declared.state.LineSet.{LineSet}
@@ -88,37 +87,11 @@ ticking code entitled d n k rest ds = refl
 
 -- ---- an accepted press off on the one channel
 
-pub first-none : (n : ℕ) (row : Test) (rows : List (ℕ × Test)) (s : LineSet) (e : List ℕ) (r : Reading) (x : Entry) → (n ≡ 0 → ⊥)
-    → firstOf ((n, row) ∷ rows) s e r x ≡ 0 → (row s e r x ≡ false) × (firstOf rows s e r x ≡ 0)
-unfolding firstOf
-first-none n row rows s e r x h z = go (row s e r x) refl
-  where
-    go : (t : Bool) → row s e r x ≡ t → (row s e r x ≡ false) × (firstOf rows s e r x ≡ 0)
-    go true k = absurd (h (rw k at z))
-    go false k = (k, rw k at z)
-
-pub table-none : (s : LineSet) (e : List ℕ) (x : Entry) → refusalOf s e x ≡ 0 → firstOf table s e (readTelegram (telegramIn e)) x ≡ 0
-unfolding refusalOf
-table-none s e x z = go (eqb (x .refusal) 0) refl
-  where
-    go : (t : Bool) → eqb (x .refusal) 0 ≡ t → firstOf table s e (readTelegram (telegramIn e)) x ≡ 0
-    go true k = rw k at z
-    go false k = absurd (false≢true (sym k ∙ eq-eqb _ 0 (rw k at z)))
-
 -- rows 4 and 12 of an accepted press: there is a plan, and the channel is in it
 pub press-planned : (s : LineSet) (e : List ℕ) (x : Entry) → x .kind ≡ 2 → refusalOf s e x ≡ 0 → (s .planned ≡ true) × (hasChannel s (x .channel) ≡ true)
 press-planned s e x k z =
-    let r = readTelegram (telegramIn e) in
-    let t4 = first-none 4 row4 _ s e r x (λ p. omega arith) (table-none s e x z) in
-    let t5 = first-none 5 row5 _ s e r x (λ p. omega arith) (t4 .1) in
-    let t6 = first-none 6 row6 _ s e r x (λ p. omega arith) (t5 .1) in
-    let t7 = first-none 7 row7 _ s e r x (λ p. omega arith) (t6 .1) in
-    let t8 = first-none 8 row8 _ s e r x (λ p. omega arith) (t7 .1) in
-    let t9 = first-none 9 row9 _ s e r x (λ p. omega arith) (t8 .1) in
-    let t10 = first-none 10 row10 _ s e r x (λ p. omega arith) (t9 .1) in
-    let t11 = first-none 11 row11 _ s e r x (λ p. omega arith) (t10 .1) in
-    let t12 = first-none 12 row12 _ s e r x (λ p. omega arith) (t11 .1) in
-    (planned (s .planned) (rw k at (t4 .0)), has (hasChannel s (x .channel)) (isIn (x .desk) (channelAt s (x .channel) .entitled)) (rw k at (t12 .0)))
+    let t = rows-fail s e x z in
+    (planned (s .planned) (rw k at (t .0)), has (hasChannel s (x .channel)) (isIn (x .desk) (channelAt s (x .channel) .entitled)) (rw k at (t .1 .1 .1 .1 .1 .1 .1 .1 .0)))
   where
     planned : (t : Bool) → (not t && true) ≡ false → t ≡ true
     planned true h = refl

@@ -9,6 +9,7 @@ use Rattle.line_set.specs.Refusals.{refusalOf}
 use Rattle.line_set.specs.Records.{recordsOf, spaceOf}
 use Rattle.line_set.specs.SetRules.{Effect, accepted}
 use Rattle.line_set.specs.declared.state.LineSet.{LineSet}
+use Rattle.line_set.specs.declared.state.Answer.{Answer}
 
 -- "The answer is the refusal number (0 if accepted), the byte count written, and the set after"; and the bytes written
 pub record Outcome : Type 0 where
@@ -16,6 +17,9 @@ pub record Outcome : Type 0 where
   pub count : ℕ
   pub after : LineSet
   pub bytes : List ℕ
+
+abbrev pub answerOf : Outcome → Answer
+answerOf o = record { set = o .after; count = o .count; refusal = o .refusal }
 
 -- "Each refusal returns count 0 and leaves set and buffer untouched."
 abbrev pub refuse : ℕ → LineSet → Outcome

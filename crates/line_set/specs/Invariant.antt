@@ -1,11 +1,12 @@
--- What holds in every state that a feed from a new set brings about: numbers and codes are in range.
+-- What holds in every state that a feed from a new set brings about.
 use Prim.Native.Nat.{ℕ, _^_, _≤_, _<_}
 use mathlib.Core.List.{List, [], _∷_}
-use mathlib.Core.Bool.{true, _||_}
+use mathlib.Core.Bool.{true, _||_, _&&_, not}
 use mathlib.Core.Path.{_≡_}
-use lib.Dec.{leb}
+use lib.Dec.{leb, ltb}
 use Rattle.fields.specs.Fields.{between}
 use Rattle.telegram.specs.declared.message.Number.{Number}
+use Rattle.channel.specs.Rules.{isOpen, isPresent, isHeld}
 use Rattle.channel.specs.declared.state.Call.{Call}
 use Rattle.channel.specs.declared.state.Call.the-variants.{Closed, Open}
 use Rattle.channel.specs.declared.state.Arrival.{Arrival}
@@ -13,6 +14,8 @@ use Rattle.channel.specs.declared.state.Arrival.the-variants.{Absent, Present}
 use Rattle.channel.specs.declared.state.Channel.{Channel}
 use Rattle.line_set.specs.declared.state.Desk.{Desk}
 use Rattle.line_set.specs.declared.state.LineSet.{LineSet}
+
+-- ---- numbers and codes in range
 
 -- eight digits
 abbrev pub NumberOk : Number → Type 0
@@ -48,14 +51,22 @@ pub record DeskOk (k : Desk) : Type 0 where
   pub code-ok : k .code ≤ 1023
   pub number-ok : NumberOk (k .number)
 
-abbrev pub EachChannel : List Channel → Type 0
-EachChannel [] = Unit {0}
-EachChannel (c ∷ cs) = ChannelOk c × EachChannel cs
-
-abbrev pub EachDesk : List Desk → Type 0
-EachDesk [] = Unit {0}
-EachDesk (k ∷ ks) = DeskOk k × EachDesk ks
+-- all of a list
+abbrev pub Each : {A : Type 0} → (A → Type 0) → List A → Type 0
+Each P [] = Unit {0}
+Each P (x ∷ xs) = P x × Each P xs
 
 pub record SetOk (s : LineSet) : Type 0 where
-  pub desks-ok : EachDesk (s .desks)
-  pub channels-ok : EachChannel (s .channels)
+  pub desks-ok : Each DeskOk (s .desks)
+  pub channels-ok : Each ChannelOk (s .channels)
+
+-- ---- timers and press
+
+pub record Timed (c : Channel) : Type 0 where
+  -- the quiet timer runs exactly when a call is open, nothing pressed and no arrival
+  pub quiet-runs : ltb 0 (c .quiet) ≡ (isOpen (c .call) && (not (c .pressed) && not (isPresent (c .arrival))))
+  -- the release timer runs exactly when the channel is held
+  pub release-runs : ltb 0 (c .release) ≡ isHeld (c .holder)
+  -- pressed implies held and a call open
+  pub pressed-held : c .pressed ≡ true → isHeld (c .holder) ≡ true
+  pub pressed-open : c .pressed ≡ true → isOpen (c .call) ≡ true

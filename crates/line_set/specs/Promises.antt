@@ -20,6 +20,7 @@ use Rattle.line_set.specs.State.{newSet, noDesk, channelAt}
 use Rattle.line_set.specs.Entries.{readEntry}
 use Rattle.line_set.specs.Records.{measuredBytes, Delivery, delivered, recordsOf}
 use Rattle.line_set.specs.SetRules.{contextOf, accepted}
+use Rattle.line_set.specs.Invariant.{SetOk, Timed, Each}
 use Rattle.line_set.specs.Feeds.{Outcome, Item, stepOf, stepBy, run, after, Seen, views}
 use Rattle.line_set.specs.declared.state.Desk.{Desk}
 use Rattle.line_set.specs.declared.state.LineSet.{LineSet}
@@ -219,3 +220,11 @@ abbrev pub Readable : Type 0
 Readable =
     (f : List Item) (i : Item) → stepBy (after newSet f) i .refusal ≡ 0
     → AllRead (accepted (after newSet f) (i .entry) (readEntry (i .entry)) .desks) (accepted (after newSet f) (i .entry) (readEntry (i .entry)) .sent)
+
+-- ---- What holds in every state that a feed from a new set brings about (`Readable.in-range-after`, `Timers.timed-after`)
+
+abbrev pub InRange : Type 0
+InRange = (f : List Item) → SetOk (after newSet f)
+
+abbrev pub TimersRun : Type 0
+TimersRun = (f : List Item) → Each Timed (after newSet f .channels)

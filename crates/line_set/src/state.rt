@@ -72,3 +72,10 @@ pub struct Entry {
     pub base: u8,
     pub number: Digits,
 }
+
+// The answer to an entry: the set after it, the bytes written, and the refusal number, 0 if it was accepted.
+pub struct Answer {
+    pub set: LineSet,
+    pub count: usize,
+    pub refusal: u8,
+}
