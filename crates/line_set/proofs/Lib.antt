@@ -6,6 +6,7 @@ pub mod Witness
 pub mod Each
 pub mod Rows
 pub mod Ticks
+pub mod AllMarked
 pub mod Ranges
 pub mod Readable
 pub mod Timers

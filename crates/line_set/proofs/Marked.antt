@@ -14,12 +14,12 @@ use Rattle.line_set.specs.Refusals.{firstOf, refusalOf}
 use Rattle.line_set.specs.Records.{delivered, toEach, recordsOf, spaceOf}
 use Rattle.line_set.specs.SetRules.{onChannel, sendsOf, onHandover, accepted}
 use Rattle.line_set.specs.Feeds.{stepOf, run, after}
-use Rattle.line_set.specs.Promises.{Listed, listingLines, Marked, cases}
+use Rattle.line_set.specs.Promises.{Listed, listingLines, Hold, cases}
 
 pub listed : Listed
 unfolding listingLines spelled onesIn digitsOf allDigits valueFrom bodyOk valuesIn bytesOf headerOk readTelegram telegramOf isIn capture handover happens placeOf runningFrom readEntry desksOk desksIn hasNumber distinct channelsOk channelsIn planOk setOf firstOf refusalOf delivered toEach recordsOf spaceOf onChannel sendsOf onHandover accepted stepOf run after
 listed = refl
 
-pub marked : Marked
+pub entries-hold : Hold cases
 unfolding cases spelled onesIn digitsOf allDigits valueFrom bodyOk valuesIn bytesOf headerOk readTelegram telegramOf isIn capture handover happens placeOf runningFrom readEntry desksOk desksIn hasNumber distinct channelsOk channelsIn planOk setOf firstOf refusalOf delivered toEach recordsOf spaceOf onChannel sendsOf onHandover accepted stepOf run after
-marked = (refl, (refl, (refl, (refl, tt))))
+entries-hold = (refl, (refl, (refl, (refl, tt))))

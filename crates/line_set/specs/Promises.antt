@@ -7,7 +7,7 @@ use lib.Dec.{eqb}
 use lib.ListN.{length, replicate, getD}
 use Rattle.fields.specs.Digits.{digitsOf, allDigits, valueOf}
 use Rattle.telegram.specs.Telegram.{readTelegram, telegramOf}
-use Rattle.telegram.specs.Promises.{dv}
+use Rattle.telegram.specs.Promises.{dv, Marked as ReaderMarked}
 use Rattle.telegram.specs.declared.message.Message.{Message}
 use Rattle.telegram.specs.declared.message.Reading.the-variants.{Telegram}
 use Rattle.channel.specs.Notices.{telegram}
@@ -82,7 +82,7 @@ pub data Related (B : ℕ) : LineSet → List Item → List Item → Type 0 wher
 abbrev pub Isolated : Type 0
 Isolated = (B : ℕ) (f f′ : List Item) → Related B newSet f f′ → views B newSet f ≡ views B newSet f′
 
--- ---- 6. The cases marked (p) in 01 that concern entries (`Marked.marked`), and its listing (`Marked.listed`)
+-- ---- 6. The cases marked (p) in 01 that concern entries (`Marked.entries-hold`), and its listing (`Marked.listed`)
 
 -- an entry with the replay's buffer
 abbrev pub item : List ℕ → Item
@@ -163,9 +163,6 @@ abbrev pub Hold : List Case → Type 0
 Hold [] = Unit {0}
 Hold (c ∷ cs) = (stepBy (after newSet (c .before)) (c .entry) .refusal ≡ c .refusal) × Hold cs
 
-abbrev pub Marked : Type 0
-Marked = Hold cases
-
 -- The claim speaks of something (`Witness.witness`): two desks share channel 7, desk 0 holds it, and the feeds differ in the
 -- number of a mobile under it. Desk 1 receives the 550651 of the capture, 34 bytes.
 abbrev pub sharedFeed : ℕ → List Item
@@ -204,6 +201,10 @@ Ticked =
     → (rooms : List ℕ) → length rooms ≡ 130 → AllAccepted (run (stepBy s i .after) (ticks rooms))
     → map (λ (o : Outcome). o .bytes) (run (stepBy s i .after) (ticks rooms))
     ≡ replicate 9 [] ++ (recordsOf (s .desks) (delivered (c .code) (endOf 3 (c .call))) ∷ replicate 119 [] ++ (recordsOf (s .desks) (delivered (c .code) (freedSends (contextOf s c d) c)) ∷ []))
+
+-- All cases marked (p) in 01: those of the reader, those of entries, and the ticks (`AllMarked.marked`).
+abbrev pub Marked : Type 0
+Marked = ReaderMarked × (Hold cases × Ticked)
 
 -- ---- 5. What is sent reads as meant (`Readable.readable`)
 
