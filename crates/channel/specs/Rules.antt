@@ -37,9 +37,9 @@ down = 1
 abbrev pub up : ℕ
 up = 2
 
--- the set of one desk
+-- the set of one desk; a set has eight places
 abbrev pub only : ℕ → ℕ
-only d = 2 ^ d
+only d = cond (ltb d 8) (2 ^ d) 0
 
 -- a desk is in a set
 unfoldable pub isIn : ℕ → ℕ → Bool

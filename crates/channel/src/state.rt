@@ -13,9 +13,9 @@ pub enum Holder {
 pub enum Call {
     Closed,
     Open {
-        kind: u32,
-        direction: u32,
-        base: u32,
+        kind: u8,
+        direction: u8,
+        base: u16,
         source: Number,
         recipients: u8,
     },
@@ -25,15 +25,15 @@ pub enum Call {
 pub enum Arrival {
     Absent,
     Present {
-        kind: u32,
-        base: u32,
+        kind: u8,
+        base: u16,
         number: Number,
         recipients: u8,
     },
 }
 
 pub struct Channel {
-    pub code: u32,
+    pub code: u8,
     // The desks that may use it (01: its mask).
     pub entitled: u8,
     pub holder: Holder,
@@ -53,7 +53,7 @@ impl Channel {
     pub const RELEASE: u8 = 120;
 
     // A channel on which nothing goes on.
-    pub fn new(code: u32, entitled: u8) -> Channel
+    pub fn new(code: u8, entitled: u8) -> Channel
         ensures { λ r. ⌜ r ≡ freeChannel code entitled ⌝ }
     {
         Channel {
@@ -76,7 +76,7 @@ pub enum Event {
     Cut,
     PressOn,
     PressOff,
-    MobileOn { base: u32, number: Number },
+    MobileOn { base: u16, number: Number },
     MobileOff,
     Tick,
     Handover,
@@ -85,40 +85,40 @@ pub enum Event {
 // What a record says, whichever desk gets it: a contact or a telegram about the channel.
 pub enum Notice {
     PressAnswer {
-        on: u32,
+        on: u8,
     },
     Incoming {
-        on: u32,
+        on: u8,
     },
     BaseArrival {
-        kind: u32,
-        base: u32,
+        kind: u8,
+        base: u16,
         number: Number,
-        order: u32,
+        order: u8,
     },
     Call {
-        kind: u32,
-        direction: u32,
-        base: u32,
+        kind: u8,
+        direction: u8,
+        base: u16,
         source: Number,
-        start: u32,
-        reason: u32,
+        start: u8,
+        reason: u8,
     },
     CallerNotice {
-        kind: u32,
-        direction: u32,
-        base: u32,
+        kind: u8,
+        direction: u8,
+        base: u16,
         number: Number,
-        order: u32,
+        order: u8,
     },
     CaptureReply {
-        result: u32,
+        result: u8,
     },
     // The number is the holder's, and no other desk gets it.
     CaptureState {
         holder: u8,
         number: Number,
-        state: u32,
+        state: u8,
     },
 }
 

@@ -1,0 +1,190 @@
+-- What holds of every answer: refused ones change nothing, the count is the records' length, a handover renews the set.
+-- Assumes nothing.
+use Prim.Native.Nat.{ℕ, zero, suc, _+_, _*_, _/_, _%_}
+use mathlib.Core.List.{List, [], _∷_, _++_}
+use mathlib.Core.Bool.{Bool, true, false, cond, false≢true}
+use mathlib.Core.Path.{_≡_, refl, sym, ap, _∙_}
+use native.Mathlib.Omega.{arith}
+use native.Mathlib.Nat.{add-mul, one-mul, zero-mul}
+use lib.Count.{onesIn}
+use lib.Dec.{eqb, leb}
+use lib.ListN.{length, length-append, getD}
+use borrow.Author.Tests.{eqb-true, eqb-false, eq-eqb}
+use Rattle.telegram.specs.Telegram.{telegramOf, sizeOf, rowOf, valuesOf, readTelegram}
+use Rattle.telegram.specs.declared.message.Message.{Message}
+use Rattle.telegram.specs.declared.message.Reading.{Reading}
+use Rattle.telegram.specs.declared.message.Reading.the-variants.{Telegram, Refused as NotRead}
+use Rattle.telegram.proofs.SizeLaws.{length-telegram}
+use Rattle.channel.specs.Rules.{isIn}
+use Rattle.channel.specs.Notices.{Content, telegram, contact, contentFor}
+use Rattle.channel.specs.declared.state.Channel.{Channel}
+use Rattle.channel.specs.declared.state.Event.{Event}
+use Rattle.channel.specs.declared.state.Notice.{Notice}
+use Rattle.channel.specs.declared.state.Notice.the-variants.{PressAnswer, Incoming, BaseArrival, Call, CallerNotice, CaptureReply, CaptureState}
+use Rattle.channel.specs.declared.state.Send.{Send}
+use Rattle.set_rules.specs.State.{newSet, noDesk}
+use Rattle.set_rules.specs.Entries.{readEntry, telegramIn}
+use Rattle.set_rules.specs.Refusals.{refusalOf}
+use Rattle.set_rules.specs.Records.{Delivery, delivered, recordFor, recordSize, toEach, recordsOf, spaceOf}
+use Rattle.set_rules.specs.SetRules.{Effect, happensIn, onChannel, sendsOf, onTick, onHandover, onMessage, onReading, accepted}
+use Rattle.set_rules.specs.Feeds.{Outcome, Item, refuse, emit, stepOf, stepBy, run, after}
+use Rattle.set_rules.specs.Promises.{Refused, Counted, Renewed}
+use Rattle.set_rules.specs.declared.state.Desk.{Desk}
+use Rattle.set_rules.specs.declared.state.LineSet.{LineSet}
+use Rattle.set_rules.specs.declared.state.Entry.{Entry}
+
+-- ---- refused answers
+
+pub refused : Refused
+unfolding stepOf
+refused s e room h = go (eqb (refusalOf s e (readEntry e)) 0) refl (leb (spaceOf (accepted s e (readEntry e) .sent)) room) refl
+  where
+    go : (t : Bool) → eqb (refusalOf s e (readEntry e)) 0 ≡ t → (u : Bool) → leb (spaceOf (accepted s e (readEntry e) .sent)) room ≡ u
+        → (stepOf s e room .count ≡ 0) × (stepOf s e room .after ≡ s) × (stepOf s e room .bytes ≡ [])
+    go true k true l = absurd (h (rw (k, l)))
+    go true k false l = (rw (k, l), rw (k, l), rw (k, l))
+    go false k u l = (rw k, rw k, rw k)
+
+-- ---- the count
+
+-- what a delivery says takes the same space to each desk
+abbrev pub Even : Delivery → Type 0
+Even v = (d : ℕ) → recordSize (v .content d) ≡ recordSize (v .content 0)
+
+abbrev pub AllEven : List Delivery → Type 0
+AllEven [] = Unit {0}
+AllEven (v ∷ vs) = Even v × AllEven vs
+
+pub record-length : (ds : List Desk) (d : ℕ) (x : Content) → length (recordFor ds d x) ≡ recordSize x
+record-length ds d (telegram m) = let l = length-telegram (getD ds d noDesk .code) m in omega arith
+record-length ds d (contact k ch on) = refl
+
+-- a mask without its lowest d bits
+unfoldable pub halves : ℕ → ℕ → ℕ
+halves zero m = m
+halves (suc d) m = halves d (m / 2)
+
+pub halves-half : (d m : ℕ) → halves (suc d) m ≡ halves d m / 2
+unfolding halves
+halves-half zero m = refl
+halves-half (suc d) m = halves-half d (m / 2)
+
+pub in-halves : (d m : ℕ) → isIn d m ≡ eqb (halves d m % 2) 1
+unfolding isIn halves
+in-halves zero m = refl
+in-halves (suc d) m = in-halves d (m / 2)
+
+one-more : (t : Bool) (x n size : ℕ) (r q : List ℕ) → eqb (x % 2) 1 ≡ t → length r ≡ size → length q ≡ n * size
+    → length (cond t r [] ++ q) ≡ (x % 2 + n) * size
+one-more true x n size r q h l m =
+    let o : x % 2 ≡ 1 = eqb-true (x % 2) 1 h in
+    rw (o, add-mul, one-mul) (simp (length-append, l, m) refl)
+one-more false x n size r q h l m =
+    let o : x % 2 ≡ 0 = omega (arith, eqb-false (x % 2) 1 h) in
+    rw (o, add-mul, zero-mul) (simp m (omega arith))
+
+-- the records to the desks of a mask from a place on: as many as it has ones there
+pub each-length : (k d : ℕ) (ds : List Desk) (v : Delivery) → Even v
+    → length (toEach k d ds v) ≡ onesIn k (halves d (v .recipients)) * recordSize (v .content 0)
+unfolding toEach onesIn
+each-length zero d ds v e = sym (zero-mul (recordSize (v .content 0)))
+each-length (suc k) d ds v e =
+    let m = v .recipients in
+    let rest = each-length k (suc d) ds v e ∙ ap (λ (h : ℕ). onesIn k h * recordSize (v .content 0)) (halves-half d m) in
+    one-more (isIn d m) (halves d m) (onesIn k (halves d m / 2)) (recordSize (v .content 0)) (recordFor ds d (v .content d)) (toEach k (suc d) ds v)
+    (sym (in-halves d m)) (record-length ds d (v .content d) ∙ e d) rest
+
+pub space-length : (ds : List Desk) (vs : List Delivery) → AllEven vs → spaceOf vs ≡ length (recordsOf ds vs)
+unfolding spaceOf recordsOf halves
+space-length ds [] e = refl
+space-length ds (v ∷ vs) e = simp (length-append, each-length 8 0 ds v (e .0), space-length ds vs (e .1)) refl
+
+-- every notice takes the same space to each desk
+pub even-notice : (ch : ℕ) (n : Notice) (d : ℕ) → recordSize (contentFor d ch n) ≡ recordSize (contentFor 0 ch n)
+even-notice ch (PressAnswer on) d = refl
+even-notice ch (Incoming on) d = refl
+even-notice ch (BaseArrival k b n o) d = refl
+even-notice ch (Call k di b s st r) d = refl
+even-notice ch (CallerNotice k di b n o) d = refl
+even-notice ch (CaptureReply r) d = refl
+even-notice ch (CaptureState h n s) d = refl
+
+pub even-sends : (ch : ℕ) (ss : List Send) → AllEven (delivered ch ss)
+unfolding delivered
+even-sends ch [] = tt
+even-sends ch (s ∷ ss) = (even-notice ch (s .notice), even-sends ch ss)
+
+even-append : (vs ws : List Delivery) → AllEven vs → AllEven ws → AllEven (vs ++ ws)
+even-append [] ws e f = f
+even-append (v ∷ vs) ws e f = (e .0, even-append vs ws (e .1) f)
+
+pub even-all : (s : LineSet) (v : Event) (cs : List Channel) → AllEven (sendsOf s v cs)
+unfolding sendsOf
+even-all s v [] = tt
+even-all s v (c ∷ cs) = even-append (delivered (c .code) (happensIn s v c .sends)) (sendsOf s v cs) (even-sends (c .code) (happensIn s v c .sends)) (even-all s v cs)
+
+pub even-on : (s : LineSet) (ch d : ℕ) (v : Event) → AllEven (onChannel s ch d v .sent)
+unfolding onChannel
+even-on s ch d v = even-sends _ _
+
+either : (t : Bool) (a b : Effect) → AllEven (a .sent) → AllEven (b .sent) → AllEven (cond t a b .sent)
+either true a b p q = p
+either false a b p q = q
+
+even-reading : (s : LineSet) (d : ℕ) (r : Reading) → AllEven (onReading s d r .sent)
+even-reading s d (Telegram c m) =
+    either (eqb (rowOf m .id) 550411) _ _ (λ k. refl, tt) (either (eqb (rowOf m .id) 550421) _ _ tt (even-on s _ d _))
+even-reading s d (NotRead n c i) = tt
+
+pub even-accepted : (s : LineSet) (e : List ℕ) (x : Entry) → AllEven (accepted s e x .sent)
+unfolding accepted onTick onHandover
+even-accepted s e x =
+    either (eqb (x .kind) 1) _ _ (even-reading s (x .desk) (readTelegram (telegramIn e)))
+    (either (eqb (x .kind) 2) _ _ (even-on s (x .channel) _ _)
+    (either (eqb (x .kind) 3) _ _ (even-on s (x .channel) _ _)
+    (either (eqb (x .kind) 4) _ _ (even-on s (x .channel) _ _)
+    (either (eqb (x .kind) 5) _ _ (even-on s (x .channel) _ _)
+    (either (eqb (x .kind) 6) _ _ (even-all s _ _)
+    (either (eqb (x .kind) 7) _ _ (λ k. refl, tt)
+    (even-all s _ _)))))))
+
+pub counted : Counted
+unfolding stepOf
+counted s e room = go (eqb (refusalOf s e (readEntry e)) 0) refl (leb (spaceOf (accepted s e (readEntry e) .sent)) room) refl
+  where
+    go : (t : Bool) → eqb (refusalOf s e (readEntry e)) 0 ≡ t → (u : Bool) → leb (spaceOf (accepted s e (readEntry e) .sent)) room ≡ u
+        → stepOf s e room .count ≡ length (stepOf s e room .bytes)
+    go true k true l = rw (k, l) (space-length _ _ (even-accepted s e (readEntry e)))
+    go true k false l = rw (k, l)
+    go false k u l = rw k
+
+-- ---- a handover
+
+handed-over : (s : LineSet) (e : List ℕ) (x : Entry) → x .kind ≡ 8 → accepted s e x .after ≡ newSet
+unfolding accepted onHandover
+handed-over s e x h = rw h
+
+-- an accepted entry: no row of the table holds, and the set after is the rule's
+pub accepted-after : (s : LineSet) (i : Item) → stepBy s i .refusal ≡ 0
+    → (refusalOf s (i .entry) (readEntry (i .entry)) ≡ 0) × (stepBy s i .after ≡ accepted s (i .entry) (readEntry (i .entry)) .after)
+unfolding stepOf
+accepted-after s i z =
+    go (eqb (refusalOf s (i .entry) (readEntry (i .entry))) 0) refl (leb (spaceOf (accepted s (i .entry) (readEntry (i .entry)) .sent)) (i .room)) refl
+  where
+    go : (t : Bool) → eqb (refusalOf s (i .entry) (readEntry (i .entry))) 0 ≡ t
+        → (u : Bool) → leb (spaceOf (accepted s (i .entry) (readEntry (i .entry)) .sent)) (i .room) ≡ u
+        → (refusalOf s (i .entry) (readEntry (i .entry)) ≡ 0) × (stepBy s i .after ≡ accepted s (i .entry) (readEntry (i .entry)) .after)
+    go true k true l = (eqb-true _ 0 k, rw (k, l))
+    go true k false l = absurd (let f : _≡_ {A = ℕ} 16 0 = rw (k, l) at z in omega arith)
+    go false k u l = absurd (let f : refusalOf s (i .entry) (readEntry (i .entry)) ≡ 0 = rw k at z in false≢true (sym k ∙ eq-eqb _ 0 f))
+
+handover-after : (s : LineSet) (i : Item) → readEntry (i .entry) .kind ≡ 8 → stepBy s i .refusal ≡ 0 → stepBy s i .after ≡ newSet
+handover-after s i h z = accepted-after s i z .1 ∙ handed-over s (i .entry) (readEntry (i .entry)) h
+
+after-append : (s : LineSet) (f : List Item) (i : Item) → after s (f ++ (i ∷ [])) ≡ stepBy (after s f) i .after
+unfolding after
+after-append s [] i = refl
+after-append s (j ∷ f) i = after-append (stepBy s j .after) f i
+
+pub renewed : Renewed
+renewed f g h k z = ap (λ (s : LineSet). run s g) (after-append newSet f h ∙ handover-after (after newSet f) h k z)

@@ -1,0 +1,35 @@
+-- Lists all of whose elements have a property.
+-- Assumes nothing.
+use Prim.Native.Nat.{ℕ, zero, suc}
+use mathlib.Core.List.{List, [], _∷_, _++_}
+use lib.ListN.{take, drop, getD, set, replicate}
+use Rattle.set_rules.specs.Invariant.{Each}
+
+module _ {A : Type 0} (P : A → Type 0) where
+  pub each-at : (xs : List A) (z : A) → Each P xs → P z → (i : ℕ) → P (getD xs i z)
+  each-at [] z o p i = p
+  each-at (x ∷ xs) z o p zero = o .0
+  each-at (x ∷ xs) z o p (suc i) = each-at xs z (o .1) p i
+
+  pub each-set : (xs : List A) (i : ℕ) (x : A) → Each P xs → P x → Each P (set xs i x)
+  each-set [] i x o p = tt
+  each-set (y ∷ xs) zero x o p = (p, o .1)
+  each-set (y ∷ xs) (suc i) x o p = (o .0, each-set xs i x (o .1) p)
+
+  pub each-take : (n : ℕ) (xs : List A) → Each P xs → Each P (take n xs)
+  each-take zero xs o = tt
+  each-take (suc n) [] o = tt
+  each-take (suc n) (x ∷ xs) o = (o .0, each-take n xs (o .1))
+
+  pub each-drop : (n : ℕ) (xs : List A) → Each P xs → Each P (drop n xs)
+  each-drop zero xs o = o
+  each-drop (suc n) [] o = tt
+  each-drop (suc n) (x ∷ xs) o = each-drop n xs (o .1)
+
+  pub each-append : (xs ys : List A) → Each P xs → Each P ys → Each P (xs ++ ys)
+  each-append [] ys o p = p
+  each-append (x ∷ xs) ys o p = (o .0, each-append xs ys (o .1) p)
+
+  pub each-same : (n : ℕ) (z : A) → P z → Each P (replicate n z)
+  each-same zero z p = tt
+  each-same (suc n) z p = (p, each-same n z p)

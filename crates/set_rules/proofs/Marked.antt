@@ -1,0 +1,25 @@
+-- The cases marked (p) in 01 that concern entries, and its listing: each computes.
+-- Assumes nothing.
+use mathlib.Core.Path.{refl}
+use lib.Count.{onesIn}
+use Rattle.fields.specs.Digits.{digitsOf, allDigits, valueFrom}
+use Rattle.fields.specs.Fields.{bodyOk, valuesIn, bytesOf}
+use Rattle.telegram.specs.Telegram.{headerOk, readTelegram, telegramOf}
+use Rattle.telegram.specs.Promises.{spelled}
+use Rattle.channel.specs.Rules.{isIn, capture, handover, happens}
+use Rattle.set_rules.specs.State.{placeOf, runningFrom}
+use Rattle.set_rules.specs.Entries.{readEntry}
+use Rattle.set_rules.specs.Plan.{desksOk, desksIn, hasNumber, distinct, channelsOk, channelsIn, planOk, setOf}
+use Rattle.set_rules.specs.Refusals.{firstOf, refusalOf}
+use Rattle.set_rules.specs.Records.{delivered, toEach, recordsOf, spaceOf}
+use Rattle.set_rules.specs.SetRules.{onChannel, sendsOf, onHandover, accepted}
+use Rattle.set_rules.specs.Feeds.{stepOf, run, after}
+use Rattle.set_rules.specs.Promises.{Listed, listingLines, Hold, cases}
+
+pub listed : Listed
+unfolding listingLines spelled onesIn digitsOf allDigits valueFrom bodyOk valuesIn bytesOf headerOk readTelegram telegramOf isIn capture handover happens placeOf runningFrom readEntry desksOk desksIn hasNumber distinct channelsOk channelsIn planOk setOf firstOf refusalOf delivered toEach recordsOf spaceOf onChannel sendsOf onHandover accepted stepOf run after
+listed = refl
+
+pub entries-hold : Hold cases
+unfolding cases spelled onesIn digitsOf allDigits valueFrom bodyOk valuesIn bytesOf headerOk readTelegram telegramOf isIn capture handover happens placeOf runningFrom readEntry desksOk desksIn hasNumber distinct channelsOk channelsIn planOk setOf firstOf refusalOf delivered toEach recordsOf spaceOf onChannel sendsOf onHandover accepted stepOf run after
+entries-hold = (refl, (refl, (refl, (refl, tt))))

@@ -1,0 +1,279 @@
+-- What a channel in range sends is in range, and it stays in range.
+-- Assumes nothing.
+use Prim.Native.Nat.{ℕ, zero, suc, _-_, _^_, _≤_, _<_}
+use mathlib.Core.List.{List, [], _∷_, _++_}
+use mathlib.Core.Bool.{Bool, true, false, _&&_, _||_, cond}
+use mathlib.Core.Path.{_≡_, refl, sym, ap, _∙_}
+use native.Mathlib.Omega.{arith}
+use lib.Dec.{eqb, leb, ltb, lit≤, lit<}
+use borrow.Author.Tests.{le-leb, lt-ltb, eq-eqb, leb-true}
+use Rattle.fields.specs.Fields.{allIn, between}
+use Rattle.fields.proofs.DigitLaws.{both}
+use Rattle.telegram.specs.Telegram.{num, inRange, sendable}
+use Rattle.telegram.specs.declared.message.Number.{Number}
+use Rattle.telegram.specs.declared.message.Message.{Message}
+use Rattle.telegram.specs.declared.message.Message.the-variants.{CaptureState as State}
+use Rattle.channel.specs.Rules.{Context, Step, step, to, when, happens, capture, captureAt, cut, release, pressOn, pressOff, mobileOn, mobileOff, tick, tickIdle, tickQuiet, tickRelease, handover, heldBy, isHeld, isPresent, isOpen, openedBy, openingSends, startOf, endOf, kindOf, pressOffSends, pressCall, mobileCall, mobileOffSends, freedSends, mobileRecipients, holderSet, holderPlace}
+use Rattle.channel.specs.Notices.{Content, telegram, contact, contentFor}
+use Rattle.channel.specs.declared.state.Holder.{Holder}
+use Rattle.channel.specs.declared.state.Holder.the-variants.{Nobody, Held}
+use Rattle.channel.specs.declared.state.Call.{Call}
+use Rattle.channel.specs.declared.state.Call.the-variants.{Closed, Open}
+use Rattle.channel.specs.declared.state.Arrival.{Arrival}
+use Rattle.channel.specs.declared.state.Arrival.the-variants.{Absent, Present}
+use Rattle.channel.specs.declared.state.Channel.{Channel}
+use Rattle.channel.specs.declared.state.Event.{Event}
+use Rattle.channel.specs.declared.state.Event.the-variants.{Capture, Release, Cut, PressOn, PressOff, MobileOn, MobileOff, Tick, Handover}
+use Rattle.channel.specs.declared.state.Notice.{Notice}
+use Rattle.channel.specs.declared.state.Notice.the-variants.{PressAnswer, Incoming, BaseArrival, Call as CallNotice, CallerNotice, CaptureReply, CaptureState}
+use Rattle.channel.specs.declared.state.Send.{Send}
+use Rattle.set_rules.specs.Invariant.{NumberOk, BaseOk, TalkOk, CallOk, ArrivalOk, ChannelOk}
+
+-- ---- notices in range, and their messages
+
+abbrev pub NoticeOk : Notice → Type 0
+NoticeOk (PressAnswer on) = Unit {0}
+NoticeOk (Incoming on) = Unit {0}
+NoticeOk (BaseArrival k b n o) = TalkOk k 2 b n × (o ≤ 1)
+NoticeOk (CallNotice k d b s t r) = TalkOk k d b s × (t ≤ 1) × (r ≤ 3)
+NoticeOk (CallerNotice k d b n o) = TalkOk k d b n × (o ≤ 1)
+NoticeOk (CaptureReply r) = r ≤ 1
+NoticeOk (CaptureState h n s) = NumberOk n × (s ≤ 1)
+
+below : (b : ℕ) → BaseOk b → ltb b (10 ^ 3) ≡ true
+below b h = go (leb b 29) refl h
+  where
+    go : (t : Bool) → leb b 29 ≡ t → (t || between 997 999 b) ≡ true → ltb b (10 ^ 3) ≡ true
+    go true k h = lt-ltb b (10 ^ 3) (omega (arith, leb-true b 29 k))
+    go false k h = lt-ltb b (10 ^ 3) (omega (arith, leb-true b 999 (both (leb 997 b) (leb b 999) h .1)))
+
+-- a planned channel's code stands in its field
+channel-in : (ch : ℕ) → ch ≤ 99 → (ltb ch (10 ^ 3) ≡ true) × (leb ch 99 ≡ true)
+channel-in ch h = (lt-ltb ch (10 ^ 3) (omega arith), le-leb ch 99 h)
+
+-- a small number stands in a field of one digit
+digit-in : (v top : ℕ) → v ≤ top → top ≤ 9 → (ltb v (10 ^ 1) ≡ true) × (leb v top ≡ true)
+digit-in v top h k = (lt-ltb v (10 ^ 1) (omega arith), le-leb v top h)
+
+abbrev pub ContentOk : Content → Type 0
+ContentOk (telegram m) = inRange m ≡ true
+ContentOk (contact k ch on) = Unit {0}
+
+pub in-range : (d ch : ℕ) (n : Notice) → ch ≤ 99 → NoticeOk n → ContentOk (contentFor d ch n)
+unfolding allIn
+in-range d ch (PressAnswer on) h k = tt
+in-range d ch (Incoming on) h k = tt
+in-range d ch (BaseArrival kd b n o) h k =
+    let t = k .0 in
+    let c = channel-in ch h in
+    let i = digit-in kd 3 (t .kind-high) (omega arith) in
+    let j = digit-in o 1 (k .1) (omega arith) in
+    simp (c .0, c .1, below b (t .base-ok), t .base-ok, i .0, i .1, le-leb 1 kd (t .kind-low), lt-ltb (n .digits) (10 ^ 8) (t .number-ok), j .0, j .1)
+in-range d ch (CallNotice kd di b s st r) h k =
+    let t = k .0 in
+    let c = channel-in ch h in
+    let i = digit-in kd 3 (t .kind-high) (omega arith) in
+    let w = digit-in di 2 (t .direction-high) (omega arith) in
+    let j = digit-in st 1 (k .1) (omega arith) in
+    simp (c .0, c .1, below b (t .base-ok), t .base-ok, i .0, i .1, le-leb 1 kd (t .kind-low), w .0, w .1, le-leb 1 di (t .direction-low), j .0, j .1, lt-ltb r (10 ^ 2) (omega arith), le-leb r 3 (k .2), lt-ltb (s .digits) (10 ^ 8) (t .number-ok))
+in-range d ch (CallerNotice kd di b n o) h k =
+    let t = k .0 in
+    let c = channel-in ch h in
+    let i = digit-in kd 3 (t .kind-high) (omega arith) in
+    let w = digit-in di 2 (t .direction-high) (omega arith) in
+    let j = digit-in o 1 (k .1) (omega arith) in
+    simp (c .0, c .1, below b (t .base-ok), t .base-ok, i .0, i .1, le-leb 1 kd (t .kind-low), w .0, w .1, le-leb 1 di (t .direction-low), lt-ltb (n .digits) (10 ^ 8) (t .number-ok), j .0, j .1)
+in-range d ch (CaptureReply r) h k =
+    let c = channel-in ch h in
+    let j = digit-in r 1 k (omega arith) in
+    simp (c .0, c .1, j .0, j .1)
+in-range d ch (CaptureState h′ n s) h k = go (eqb h′ d)
+  where
+    go : (t : Bool) → ContentOk (telegram (State (record { channel = ch; number = cond t n (num 0); state = s })))
+    go true =
+        let c = channel-in ch h in
+        let j = digit-in s 1 (k .1) (omega arith) in
+        simp (c .0, c .1, lt-ltb (n .digits) (10 ^ 8) (k .0), j .0, j .1)
+    go false =
+        let c = channel-in ch h in
+        let j = digit-in s 1 (k .1) (omega arith) in
+        simp (c .0, c .1, j .0, j .1)
+
+-- ---- what a rule sends, and the channel after it
+
+abbrev pub SendsOk : List Send → Type 0
+SendsOk [] = Unit {0}
+SendsOk (s ∷ ss) = NoticeOk (s .notice) × SendsOk ss
+
+append-ok : (ss ts : List Send) → SendsOk ss → SendsOk ts → SendsOk (ss ++ ts)
+append-ok [] ts a b = b
+append-ok (s ∷ ss) ts a b = (a .0, append-ok ss ts (a .1) b)
+
+when-ok : (t : Bool) (ss : List Send) → SendsOk ss → SendsOk (when t ss)
+when-ok true ss a = a
+when-ok false ss a = tt
+
+pub record StepOk (st : Step) : Type 0 where
+  pub next-ok : ChannelOk (st .next)
+  pub sends-ok : SendsOk (st .sends)
+
+either : (t : Bool) (a b : Step) → StepOk a → StepOk b → StepOk (cond t a b)
+either true a b p q = p
+either false a b p q = q
+
+-- an event in range
+abbrev pub EventOk : Event → Type 0
+EventOk (Capture d) = Unit {0}
+EventOk (Release d) = Unit {0}
+EventOk Cut = Unit {0}
+EventOk PressOn = Unit {0}
+EventOk PressOff = Unit {0}
+EventOk (MobileOn b n) = (b ≤ 29) × NumberOk n
+EventOk MobileOff = Unit {0}
+EventOk Tick = Unit {0}
+EventOk Handover = Unit {0}
+
+module _ (x : Context) (own : NumberOk (x .own)) (c : Channel) (ok : ChannelOk c) where
+  -- the talk of the holder in a call
+  kind-ok : (k : Call) → CallOk k → TalkOk (kindOf k) 1 999 (x .own)
+  kind-ok Closed o = record { kind-low = omega arith; kind-high = omega arith; direction-low = omega arith; direction-high = omega arith; base-ok = refl; number-ok = own }
+  kind-ok (Open k d b s m) o =
+      record { kind-low = o .kind-low; kind-high = o .kind-high; direction-low = omega arith; direction-high = omega arith; base-ok = refl; number-ok = own }
+
+  end-ok : (r : ℕ) → r ≤ 3 → (k : Call) → CallOk k → SendsOk (endOf r k)
+  end-ok r h Closed o = tt
+  end-ok r h (Open k d b s m) o = ((o, omega arith, h), tt)
+
+  press-off-ok : SendsOk (pressOffSends x c)
+  press-off-ok = (tt, ((kind-ok (c .call) (ok .call-ok), omega arith), tt))
+
+  off-ok : (a : Arrival) → ArrivalOk a → SendsOk (mobileOffSends a)
+  off-ok Absent o = tt
+  off-ok (Present k b n m) o = (tt, ((o, omega arith), ((o, omega arith), tt)))
+
+  freed-ok : SendsOk (freedSends x c)
+  freed-ok = ((own, omega arith), tt)
+
+  -- a channel that has the code, call and arrival of c
+  kept : (c′ : Channel) → c′ .code ≡ c .code → c′ .call ≡ c .call → c′ .arrival ≡ c .arrival → ChannelOk c′
+  kept c′ p q r = record { code-ok = rw p (ok .code-ok); call-ok = rw q (ok .call-ok); arrival-ok = rw r (ok .arrival-ok) }
+
+  plain-ok : StepOk (step c [])
+  plain-ok = record { next-ok = ok; sends-ok = tt }
+
+  reply-ok : (t : Bool) (d : ℕ) → NoticeOk (CaptureReply (cond t 0 1))
+  reply-ok true d = omega arith
+  reply-ok false d = omega arith
+
+  captureAt-ok : (h : Holder) (d : ℕ) → StepOk (captureAt h x d c)
+  captureAt-ok Nobody d = record { next-ok = kept _ refl refl refl; sends-ok = (omega arith, ((own, omega arith), tt)) }
+  captureAt-ok (Held h) d = record { next-ok = ok; sends-ok = (reply-ok (eqb h d) d, tt) }
+
+  capture-ok : (d : ℕ) → StepOk (capture x d c)
+  unfolding capture
+  capture-ok d = captureAt-ok (c .holder) d
+
+  cut-ok : StepOk (cut x c)
+  unfolding cut
+  cut-ok = record {
+    next-ok = record { code-ok = ok .code-ok; call-ok = tt; arrival-ok = ok .arrival-ok };
+    sends-ok =
+        append-ok (when (c .pressed) (pressOffSends x c)) (endOf 1 (c .call) ++ freedSends x c) (when-ok (c .pressed) (pressOffSends x c) press-off-ok)
+        (append-ok (endOf 1 (c .call)) (freedSends x c) (end-ok 1 (omega arith) (c .call) (ok .call-ok)) freed-ok);
+  }
+
+  release-ok : (d : ℕ) → StepOk (release x d c)
+  unfolding release
+  release-ok d =
+      either (heldBy d (c .holder)) _ _
+      (record { next-ok = cut-ok .next-ok; sends-ok = (omega arith, cut-ok .sends-ok) })
+      (record { next-ok = ok; sends-ok = (omega arith, tt) })
+
+  -- a call that may have been opened, and its start
+  opened-ok : (k new : Call) → CallOk k → CallOk new → CallOk (openedBy k new)
+  opened-ok Closed new o p = p
+  opened-ok (Open k d b s m) new o p = o
+
+  start-ok : (new : Call) → CallOk new → SendsOk (startOf new)
+  start-ok Closed p = tt
+  start-ok (Open k d b s m) p = ((p, omega arith, omega arith), tt)
+
+  opening-ok : (k new : Call) → CallOk new → SendsOk (openingSends k new)
+  opening-ok Closed new p = start-ok new p
+  opening-ok (Open k d b s m) new p = tt
+
+  own-talk : TalkOk 1 1 999 (x .own)
+  own-talk = kind-ok Closed tt
+
+  pressOn-ok : StepOk (pressOn x c)
+  unfolding pressOn
+  pressOn-ok = record {
+    next-ok = record { code-ok = ok .code-ok; call-ok = opened-ok (c .call) (pressCall x c) (ok .call-ok) own-talk; arrival-ok = ok .arrival-ok };
+    sends-ok = (tt, append-ok (openingSends (c .call) (pressCall x c)) _ (opening-ok (c .call) (pressCall x c) own-talk) ((kind-ok (c .call) (ok .call-ok), omega arith), tt));
+  }
+
+  pressOff-ok : StepOk (pressOff x c)
+  unfolding pressOff
+  pressOff-ok = record { next-ok = kept _ refl refl refl; sends-ok = press-off-ok }
+
+  mobile-talk : (k : Call) → CallOk k → (b : ℕ) (n : Number) → b ≤ 29 → NumberOk n → TalkOk (kindOf k) 2 b n
+  mobile-talk Closed o b n h g = record { kind-low = omega arith; kind-high = omega arith; direction-low = omega arith; direction-high = omega arith; base-ok = rw (le-leb b 29 h); number-ok = g }
+  mobile-talk (Open k d b′ s m) o b n h g =
+      record { kind-low = o .kind-low; kind-high = o .kind-high; direction-low = omega arith; direction-high = omega arith; base-ok = rw (le-leb b 29 h); number-ok = g }
+
+  mobileOn-ok : (b : ℕ) (n : Number) → b ≤ 29 → NumberOk n → StepOk (mobileOn x b n c)
+  unfolding mobileOn
+  mobileOn-ok b n h g =
+      let t = mobile-talk (c .call) (ok .call-ok) b n h g in
+      let new = mobileCall b n (mobileRecipients (c .holder) (x .listeners)) in
+      let o : CallOk new = mobile-talk Closed tt b n h g in
+      record {
+        next-ok = record { code-ok = ok .code-ok; call-ok = opened-ok (c .call) new (ok .call-ok) o; arrival-ok = t };
+        sends-ok = (tt, ((t, omega arith), append-ok (openingSends (c .call) new) _ (opening-ok (c .call) new o) ((t, omega arith), tt)));
+      }
+
+  mobileOff-ok : StepOk (mobileOff c)
+  unfolding mobileOff
+  mobileOff-ok = record { next-ok = record { code-ok = ok .code-ok; call-ok = ok .call-ok; arrival-ok = tt }; sends-ok = off-ok (c .arrival) (ok .arrival-ok) }
+
+  tickQuiet-ok : StepOk (tickQuiet c)
+  unfolding tickQuiet
+  tickQuiet-ok =
+      either (leb (c .quiet) 1) _ _
+      (record { next-ok = record { code-ok = ok .code-ok; call-ok = tt; arrival-ok = ok .arrival-ok }; sends-ok = end-ok 3 (omega arith) (c .call) (ok .call-ok) })
+      (record { next-ok = kept _ refl refl refl; sends-ok = tt })
+
+  tickRelease-ok : StepOk (tickRelease x c)
+  unfolding tickRelease
+  tickRelease-ok =
+      either (leb (c .release) 1) _ _ (record { next-ok = kept _ refl refl refl; sends-ok = freed-ok }) (record { next-ok = kept _ refl refl refl; sends-ok = tt })
+
+  tickIdle-ok : StepOk (tickIdle x c)
+  unfolding tickIdle
+  tickIdle-ok = either (ltb 0 (c .quiet)) _ _ tickQuiet-ok (either (isHeld (c .holder)) _ _ tickRelease-ok plain-ok)
+
+  tick-ok : StepOk (tick x c)
+  unfolding tick
+  tick-ok = either (c .pressed) _ _ plain-ok (either (isPresent (c .arrival)) _ _ plain-ok tickIdle-ok)
+
+  handover-ok : StepOk (handover x c)
+  unfolding handover
+  handover-ok = record {
+    next-ok = record { code-ok = ok .code-ok; call-ok = tt; arrival-ok = tt };
+    sends-ok =
+        append-ok (when (c .pressed) (pressOffSends x c)) _ (when-ok (c .pressed) (pressOffSends x c) press-off-ok)
+        (append-ok (mobileOffSends (c .arrival)) _ (off-ok (c .arrival) (ok .arrival-ok))
+        (append-ok (endOf 2 (c .call)) _ (end-ok 2 (omega arith) (c .call) (ok .call-ok)) (when-ok (isHeld (c .holder)) (freedSends x c) freed-ok)));
+  }
+
+  pub happens-ok : (v : Event) → EventOk v → StepOk (happens v x c)
+  unfolding happens
+  happens-ok (Capture d) h = capture-ok d
+  happens-ok (Release d) h = release-ok d
+  happens-ok Cut h = cut-ok
+  happens-ok PressOn h = pressOn-ok
+  happens-ok PressOff h = pressOff-ok
+  happens-ok (MobileOn b n) h = mobileOn-ok b n (h .0) (h .1)
+  happens-ok MobileOff h = mobileOff-ok
+  happens-ok Tick h = tick-ok
+  happens-ok Handover h = handover-ok

@@ -1,0 +1,300 @@
+-- Every telegram that a feed brings about reads as meant: numbers and codes stay in range.
+-- Assumes nothing.
+use Prim.Native.Nat.{ℕ, zero, suc, _+_, _-_, _*_, _^_, _≤_, _<_}
+use mathlib.Core.List.{List, [], _∷_, _++_}
+use mathlib.Core.Bool.{Bool, true, false, _&&_, _||_, not, cond, false≢true}
+use mathlib.Core.Path.{_≡_, refl, sym, ap, _∙_}
+use native.Mathlib.Omega.{arith}
+use native.Mathlib.Nat.{pow-le-pow-right}
+use lib.Dec.{eqb, leb, ltb}
+use lib.ListN.{length, length-take, take, drop, getD, set, replicate}
+use borrow.Author.Tests.{leb-true, le-leb, eqb-true, eq-eqb}
+use Rattle.fields.specs.Digits.{allDigits, valueOf, digitsIn}
+use Rattle.fields.specs.Fields.{allIn, between}
+use Rattle.fields.specs.declared.digits.Digits.{Digits}
+use Rattle.fields.specs.declared.digits.Digits.the-variants.{Value, Malformed}
+use Rattle.fields.proofs.DigitLaws.{both, value-below}
+use Rattle.telegram.specs.Telegram.{num, nth, inRange, rowOf, valuesOf, readTelegram, telegramOf}
+use Rattle.telegram.specs.declared.message.Message.{Message}
+use Rattle.telegram.specs.declared.message.Message.the-variants.{TimeRequest, OperationRequest}
+use Rattle.telegram.specs.declared.message.Reading.{Reading}
+use Rattle.telegram.specs.declared.message.Reading.the-variants.{Telegram, Refused}
+use Rattle.telegram.proofs.RoundTrip.{reads-back}
+use Rattle.channel.specs.Rules.{Step, only, holderPlace, happens}
+use Rattle.channel.specs.Notices.{Content, telegram, contact, contentFor}
+use Rattle.channel.specs.declared.state.Channel.{Channel}
+use Rattle.channel.specs.declared.state.Event.{Event}
+use Rattle.channel.specs.declared.state.Event.the-variants.{Capture, Release, Cut, PressOn, PressOff, MobileOn, MobileOff, Tick, Handover}
+use Rattle.channel.specs.declared.state.Send.{Send}
+use Rattle.set_rules.specs.State.{newSet, noDesk, noChannel, deskAt, channelsOf, placeIn, channelAt, timeTold, answered, withLink}
+use Rattle.set_rules.specs.Entries.{byte, word, readEntry, measured, bad, payload, payloadOk, sizeOk, telegramIn, planIn}
+use Rattle.set_rules.specs.Plan.{deskOk, desksOk, desksIn, channelsOk, channelsIn, deskCount, desksPart, channelCount, channelsPart, distinct, planOk, filled, setOf}
+use Rattle.set_rules.specs.Refusals.{refusalOf}
+use Rattle.set_rules.specs.Records.{Delivery, delivered}
+use Rattle.set_rules.specs.SetRules.{Effect, effect, telegramTo, contextOf, happensIn, nextsOf, sendsOf, onChannel, byHolder, onTick, onHandover, onPlan, onReading, timeTaken, answerTaken, numberIn, accepted}
+use Rattle.set_rules.specs.Feeds.{Item, stepOf, stepBy, after}
+use Rattle.set_rules.specs.Invariant.{NumberOk, ChannelOk, DeskOk, Each, SetOk}
+use Rattle.set_rules.specs.Promises.{AllRead, Readable, InRange}
+use Rattle.set_rules.specs.declared.state.Link.{Link}
+use Rattle.set_rules.specs.declared.state.Desk.{Desk}
+use Rattle.set_rules.specs.declared.state.LineSet.{LineSet}
+use Rattle.set_rules.specs.declared.state.Entry.{Entry}
+use Rattle.set_rules.proofs.Answers.{refused, accepted-after}
+use Rattle.set_rules.proofs.Each.{each-at, each-set, each-take, each-drop, each-append, each-same}
+use Rattle.set_rules.proofs.Rows.{rows-fail}
+use Rattle.set_rules.proofs.Ranges.{ContentOk, NoticeOk, in-range, SendsOk, StepOk, EventOk, happens-ok}
+
+-- ---- what fills the arrays
+
+no-desk : DeskOk noDesk
+no-desk = record { code-ok = omega arith; number-ok = omega arith }
+
+no-channel : ChannelOk noChannel
+no-channel = record { code-ok = omega arith; call-ok = tt; arrival-ok = tt }
+
+desk-ok : (ds : List Desk) → Each DeskOk ds → (d : ℕ) → DeskOk (getD ds d noDesk)
+desk-ok ds o d = each-at DeskOk ds noDesk o no-desk d
+
+no-desks : (n : ℕ) → Each DeskOk (replicate n noDesk)
+no-desks n = each-same DeskOk n noDesk no-desk
+
+no-channels : (n : ℕ) → Each ChannelOk (replicate n noChannel)
+no-channels n = each-same ChannelOk n noChannel no-channel
+
+-- ---- what is sent reads
+
+content-reads : (code : ℕ) (x : Content) → code ≤ 1023 → ContentOk x → (m : Message) → x ≡ telegram m → readTelegram (telegramOf code m) ≡ Telegram code m
+content-reads code (telegram m′) h k m e =
+    let q : m′ ≡ m = cc in
+    reads-back code m (simp (le-leb code 1023 h, ap inRange (sym q) ∙ k))
+content-reads code (contact k′ ch on) h k m e = absurd (let z : _≡_ {A = ℕ} 0 1 = cc in omega arith)
+
+sent-reads : (ds : List Desk) → Each DeskOk ds → (ch : ℕ) → ch ≤ 99 → (ss : List Send) → SendsOk ss → AllRead ds (delivered ch ss)
+unfolding delivered
+sent-reads ds o ch h [] k = tt
+sent-reads ds o ch h (s ∷ ss) k =
+    (λ d m e. content-reads (getD ds d noDesk .code) (contentFor d ch (s .notice)) (desk-ok ds o d .code-ok) (in-range d ch (s .notice) h (k .0)) m e, sent-reads ds o ch h ss (k .1))
+
+read-append : (ds : List Desk) (vs ws : List Delivery) → AllRead ds vs → AllRead ds ws → AllRead ds (vs ++ ws)
+read-append ds [] ws a b = b
+read-append ds (v ∷ vs) ws a b = (a .0, read-append ds vs ws (a .1) b)
+
+-- a telegram that is in range whatever it says
+plain-reads : (ds : List Desk) → Each DeskOk ds → (to : ℕ) (m : Message) → inRange m ≡ true → AllRead ds (telegramTo to m)
+plain-reads ds o to m h = (λ d m′ e. content-reads (getD ds d noDesk .code) (telegram m) (desk-ok ds o d .code-ok) h m′ e, tt)
+
+-- ---- effects
+
+record EffectOk (f : Effect) : Type 0 where
+  set-ok : SetOk (f .after)
+  sent-ok : AllRead (f .desks) (f .sent)
+
+either : (t : Bool) (f g : Effect) → EffectOk f → EffectOk g → EffectOk (cond t f g)
+either true f g p q = p
+either false f g p q = q
+
+module _ (s : LineSet) (ok : SetOk s) where
+  own-ok : (d : ℕ) → NumberOk (deskAt s d .number)
+  own-ok d = desk-ok (s .desks) (ok .desks-ok) d .number-ok
+
+  at-ok : (ch : ℕ) → ChannelOk (channelAt s ch)
+  at-ok ch = each-at ChannelOk (channelsOf s) noChannel (each-take ChannelOk (s .size .channels) (s .channels) (ok .channels-ok)) no-channel (placeIn s ch)
+
+  on-ok : (ch d : ℕ) (v : Event) → EventOk v → EffectOk (onChannel s ch d v)
+  unfolding onChannel
+  on-ok ch d v h =
+      let c = channelAt s ch in
+      let k = happens-ok (contextOf s c d) (own-ok d) c (at-ok ch) v h in
+      record {
+        set-ok = record { desks-ok = ok .desks-ok; channels-ok = each-set ChannelOk (s .channels) (placeIn s ch) _ (ok .channels-ok) (k .next-ok) };
+        sent-ok = sent-reads (s .desks) (ok .desks-ok) (c .code) (at-ok ch .code-ok) _ (k .sends-ok);
+      }
+
+  all-ok : (v : Event) → EventOk v → (cs : List Channel) → Each ChannelOk cs → Each ChannelOk (nextsOf s v cs) × AllRead (s .desks) (sendsOf s v cs)
+  unfolding nextsOf sendsOf
+  all-ok v h [] o = (tt, tt)
+  all-ok v h (c ∷ cs) o =
+      let k = happens-ok (contextOf s c (holderPlace (c .holder))) (own-ok (holderPlace (c .holder))) c (o .0) v h in
+      let r = all-ok v h cs (o .1) in
+      ((k .next-ok, r .0), read-append (s .desks) (delivered (c .code) (happensIn s v c .sends)) (sendsOf s v cs) (sent-reads (s .desks) (ok .desks-ok) (c .code) (o .0 .code-ok) (happensIn s v c .sends) (k .sends-ok)) (r .1))
+
+  planned-ok : Each ChannelOk (channelsOf s)
+  planned-ok = each-take ChannelOk (s .size .channels) (s .channels) (ok .channels-ok)
+
+  tick-ok : EffectOk (onTick s)
+  unfolding onTick
+  tick-ok =
+      let r = all-ok Tick tt (channelsOf s) planned-ok in
+      record {
+        set-ok = record { desks-ok = ok .desks-ok; channels-ok = each-append ChannelOk (nextsOf s Tick (channelsOf s)) _ (r .0) (each-drop ChannelOk (s .size .channels) (s .channels) (ok .channels-ok)) };
+        sent-ok = r .1;
+      }
+
+  handover-ok : EffectOk (onHandover s)
+  unfolding onHandover
+  handover-ok = record {
+    set-ok = record { desks-ok = no-desks 4; channels-ok = no-channels 32 };
+    sent-ok = all-ok Handover tt (channelsOf s) planned-ok .1;
+  }
+
+  link-ok : (d : ℕ) (f : Link → Link) → SetOk (withLink d f s)
+  link-ok d f =
+      let k = desk-ok (s .desks) (ok .desks-ok) d in
+      record { desks-ok = each-set DeskOk (s .desks) d _ (ok .desks-ok) (record { code-ok = k .code-ok; number-ok = k .number-ok }); channels-ok = ok .channels-ok }
+
+  time-ok : (d : ℕ) → EffectOk (timeTaken s d)
+  unfolding allIn
+  time-ok d = record { set-ok = link-ok d timeTold; sent-ok = plain-reads (s .desks) (ok .desks-ok) (only d) OperationRequest refl }
+
+  answer-ok : (d a : ℕ) → EffectOk (answerTaken s d a)
+  answer-ok d a = record { set-ok = link-ok d (answered a); sent-ok = tt }
+
+  order-ok : (t : Bool) (d : ℕ) → EventOk (cond t (Capture d) (Release d))
+  order-ok true d = tt
+  order-ok false d = tt
+
+  press-ok : (t : Bool) → EventOk (cond t PressOn PressOff)
+  press-ok true = tt
+  press-ok false = tt
+
+  reading-ok : (d : ℕ) (r : Reading) → EffectOk (onReading s d r)
+  reading-ok d (Telegram c m) =
+      either (eqb (rowOf m .id) 550411) _ _ (time-ok d)
+      (either (eqb (rowOf m .id) 550421) _ _ (answer-ok d (nth (valuesOf m) 1))
+      (on-ok (nth (valuesOf m) 0) d _ (order-ok (eqb (nth (valuesOf m) 3) 1) d)))
+  reading-ok d (Refused n c i) = record { set-ok = ok; sent-ok = tt }
+
+-- ---- a plan that keeps its rules
+
+-- what at most eight digits spell
+eight-below : (b : List ℕ) → length b ≤ 8 → allDigits b ≡ true → valueOf b < 10 ^ 8
+eight-below b l h =
+    let p : 10 ^ length b ≤ 10 ^ 8 = pow-le-pow-right (omega arith) {i = length b} {j = 8} l in
+    omega (arith, value-below b h)
+
+eight-taken : (b : List ℕ) → length (take 8 b) ≤ 8
+eight-taken b = simp length-take (omega arith)
+
+desks-in : (n : ℕ) (b : List ℕ) → desksOk n b ≡ true → Each DeskOk (desksIn n b)
+unfolding desksOk desksIn
+desks-in zero b h = tt
+desks-in (suc n) b h =
+    let a = both (deskOk b) (desksOk n (drop 10 b)) h in
+    let f = both (leb (word b 0) 1023 && allDigits (take 8 (drop 2 b))) _ (a .0) in
+    let g = both (leb (word b 0) 1023) (allDigits (take 8 (drop 2 b))) (f .0) in
+    (record { code-ok = leb-true _ _ (g .0); number-ok = eight-below (take 8 (drop 2 b)) (eight-taken (drop 2 b)) (g .1) }, desks-in n (drop 10 b) (a .1))
+
+channels-in : (n low desks : ℕ) (b : List ℕ) → channelsOk n low desks b ≡ true → Each ChannelOk (channelsIn n b)
+unfolding channelsOk channelsIn
+channels-in zero low desks b h = tt
+channels-in (suc n) low desks b h =
+    let a = both (between low 99 (byte b 0) && between 1 (2 ^ desks - 1) (byte b 1)) (channelsOk n (byte b 0 + 1) desks (drop 2 b)) h in
+    let f = both (between low 99 (byte b 0)) (between 1 (2 ^ desks - 1) (byte b 1)) (a .0) in
+    let g = both (leb low (byte b 0)) (leb (byte b 0) 99) (f .0) in
+    (record { code-ok = leb-true _ _ (g .1); call-ok = tt; arrival-ok = tt }, channels-in n (byte b 0 + 1) desks (drop 2 b) (a .1))
+
+plan-ok : (p : List ℕ) → planOk p ≡ true → EffectOk (onPlan p)
+unfolding planOk setOf allIn
+plan-ok p h =
+    let a = both _ (channelsOk (channelCount p) 0 (deskCount p) (channelsPart p)) h in
+    let f = both _ (distinct (desksIn (deskCount p) (desksPart p))) (a .0) in
+    let g =
+    both (between 1 4 (deskCount p) && between 1 32 (channelCount p) && eqb (length p) (2 + 10 * deskCount p + 2 * channelCount p)) (desksOk (deskCount p) (desksPart p)) (f .0) in
+    let ds = desks-in (deskCount p) (desksPart p) (g .1) in
+    let cs = channels-in (channelCount p) 0 (deskCount p) (channelsPart p) (a .1) in
+    let d = each-append DeskOk (desksIn (deskCount p) (desksPart p)) _ ds (no-desks (4 - length (desksIn (deskCount p) (desksPart p)))) in
+    let c = each-append ChannelOk (channelsIn (channelCount p) (channelsPart p)) _ cs (no-channels (32 - length (channelsIn (channelCount p) (channelsPart p)))) in
+    record { set-ok = record { desks-ok = d; channels-ok = c }; sent-ok = plain-reads (setOf p .desks) d (2 ^ deskCount p - 1) TimeRequest refl }
+
+-- ---- what an entry asks for
+
+abbrev AskedOk : Entry → Type 0
+AskedOk x = (x .base ≤ 29) × NumberOk (numberIn (x .number))
+
+number-in : (b : List ℕ) → length b ≤ 8 → NumberOk (numberIn (digitsIn b))
+number-in b l = go (leb (length b) 9 && allDigits b) refl
+  where
+    go : (t : Bool) → (leb (length b) 9 && allDigits b) ≡ t → NumberOk (numberIn (cond t (Value (valueOf b)) Malformed))
+    go true h = eight-below b l (both (leb (length b) 9) (allDigits b) h .1)
+    go false h = omega arith
+
+number-either : (t : Bool) (x y : Entry) → NumberOk (numberIn (x .number)) → NumberOk (numberIn (y .number)) → NumberOk (numberIn (cond t x y .number))
+number-either true x y p q = p
+number-either false x y p q = q
+
+none-ok : NumberOk (num 0)
+none-ok = omega arith
+
+payload-number : (k : ℕ) (e : List ℕ) → NumberOk (numberIn (payload k e .number))
+payload-number k e =
+    number-either (eqb k 1) _ _ none-ok
+    (number-either (eqb k 2) _ _ none-ok
+    (number-either (eqb k 3) _ _ none-ok
+    (number-either (eqb k 4) _ _ (number-in (take 8 (drop 6 e)) (eight-taken (drop 6 e)))
+    (number-either (eqb k 5) _ _ none-ok none-ok))))
+
+asked-ok : (e : List ℕ) → AskedOk (readEntry e)
+unfolding readEntry
+asked-ok e = go (measured e) (eqb (byte e 2) 1) (payloadOk (byte e 3) e) refl
+  where
+    bad-ok : (n : ℕ) → AskedOk (bad n)
+    bad-ok n = (omega arith, none-ok)
+
+    go : (t u v : Bool) → payloadOk (byte e 3) e ≡ v → AskedOk (cond t (cond u (cond v (payload (byte e 3) e) (bad 3)) (bad 2)) (bad 1))
+    go true true true h =
+        (leb-true _ 29 (both (sizeOk (byte e 3) (length e) && leb (payload (byte e 3) e .on) 1) (leb (payload (byte e 3) e .base) 29) h .1), payload-number (byte e 3) e)
+    go true true false h = bad-ok 3
+    go true false v h = bad-ok 2
+    go false u v h = bad-ok 1
+
+-- an accepted plan keeps the rules of a plan: row 6
+plan-kept : (s : LineSet) (e : List ℕ) (x : Entry) → refusalOf s e x ≡ 0 → eqb (x .kind) 7 ≡ true → planOk (planIn e) ≡ true
+plan-kept s e x z k =
+    let t = rows-fail s e x z in
+    go (planOk (planIn e)) (rw k at (t .1 .1 .0))
+  where
+    go : (t : Bool) → not t ≡ false → t ≡ true
+    go true h = refl
+    go false h = absurd (false≢true (sym h))
+
+-- ---- every accepted entry, every entry, every feed
+
+plan-if : (t : Bool) (p : List ℕ) (g : Effect) → (t ≡ true → planOk p ≡ true) → EffectOk g → EffectOk (cond t (onPlan p) g)
+plan-if true p g h q = plan-ok p (h refl)
+plan-if false p g h q = q
+
+accepted-ok : (s : LineSet) → SetOk s → (e : List ℕ) (x : Entry) → AskedOk x → refusalOf s e x ≡ 0 → EffectOk (accepted s e x)
+unfolding accepted
+accepted-ok s ok e x a z =
+    either (eqb (x .kind) 1) _ _ (reading-ok s ok (x .desk) (readTelegram (telegramIn e)))
+    (either (eqb (x .kind) 2) _ _ (on-ok s ok (x .channel) _ _ (press-ok s ok (eqb (x .on) 1)))
+    (either (eqb (x .kind) 3) _ _ (on-ok s ok (x .channel) _ Cut tt)
+    (either (eqb (x .kind) 4) _ _ (on-ok s ok (x .channel) _ _ a)
+    (either (eqb (x .kind) 5) _ _ (on-ok s ok (x .channel) _ MobileOff tt)
+    (either (eqb (x .kind) 6) _ _ (tick-ok s ok)
+    (plan-if (eqb (x .kind) 7) (planIn e) _ (plan-kept s e x z) (handover-ok s ok)))))))
+
+step-ok : (s : LineSet) (i : Item) → SetOk s → SetOk (stepBy s i .after)
+step-ok s i ok = go (eqb (stepBy s i .refusal) 0) refl
+  where
+    go : (t : Bool) → eqb (stepBy s i .refusal) 0 ≡ t → SetOk (stepBy s i .after)
+    go true h =
+        let f = accepted-after s i (eqb-true _ 0 h) in
+        rw (f .1) (accepted-ok s ok (i .entry) (readEntry (i .entry)) (asked-ok (i .entry)) (f .0) .set-ok)
+    go false h = rw (refused s (i .entry) (i .room) (λ p. false≢true (sym h ∙ eq-eqb _ 0 p)) .1) ok
+
+feed-ok : (s : LineSet) (f : List Item) → SetOk s → SetOk (after s f)
+unfolding after
+feed-ok s [] ok = ok
+feed-ok s (i ∷ f) ok = feed-ok (stepBy s i .after) f (step-ok s i ok)
+
+new-ok : SetOk newSet
+new-ok = record { desks-ok = no-desks 4; channels-ok = no-channels 32 }
+
+pub in-range-after : InRange
+in-range-after f = feed-ok newSet f new-ok
+
+pub readable : Readable
+readable f i z =
+    let s = after newSet f in
+    accepted-ok s (in-range-after f) (i .entry) (readEntry (i .entry)) (asked-ok (i .entry)) (accepted-after s i z .0) .sent-ok

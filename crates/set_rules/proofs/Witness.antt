@@ -1,0 +1,52 @@
+-- The isolation speaks of something: two different feeds that are related, in which desk 1 receives records.
+-- Assumes nothing.
+use Prim.Native.Nat.{ℕ}
+use mathlib.Core.List.{List, []}
+use mathlib.Core.Path.{_≡_, refl, ap}
+use native.Mathlib.Omega.{arith}
+use lib.Count.{onesIn}
+use lib.ListN.{getD}
+use Rattle.fields.specs.Digits.{digitsOf, allDigits, valueFrom}
+use Rattle.fields.specs.Fields.{bodyOk, valuesIn, bytesOf}
+use Rattle.telegram.specs.Telegram.{headerOk, readTelegram, telegramOf}
+use Rattle.telegram.specs.Promises.{spelled}
+use Rattle.channel.specs.Rules.{isIn, capture, mobileOn, happens}
+use Rattle.set_rules.specs.State.{placeOf, runningFrom}
+use Rattle.set_rules.specs.Entries.{readEntry}
+use Rattle.set_rules.specs.Plan.{desksOk, desksIn, hasNumber, distinct, channelsOk, channelsIn, planOk, setOf}
+use Rattle.set_rules.specs.Refusals.{firstOf, refusalOf}
+use Rattle.set_rules.specs.Records.{delivered, toEach, recordsOf, spaceOf}
+use Rattle.set_rules.specs.SetRules.{onChannel, accepted}
+use Rattle.set_rules.specs.Feeds.{Item, stepOf, ofDesk, views}
+use Rattle.set_rules.specs.Promises.{Speaks, same, numbers, none, more, item, WellFormed}
+
+formed : WellFormed (digitsOf 8 990007)
+unfolding digitsOf allDigits valueFrom
+formed = record { eight = refl; digits = refl; caller = refl }
+
+formed-too : WellFormed (digitsOf 8 990008)
+unfolding digitsOf allDigits valueFrom
+formed-too = record { eight = refl; digits = refl; caller = refl }
+
+other : _≡_ {A = ℕ} 0 1 → ⊥
+other p = omega arith
+
+-- the last byte of the seventh entry
+last : List Item → ℕ
+last f = getD (getD f 6 (item []) .entry) 13 0
+
+pub witness : Speaks
+unfolding last spelled onesIn digitsOf allDigits valueFrom bodyOk valuesIn bytesOf headerOk readTelegram telegramOf isIn capture mobileOn happens placeOf runningFrom readEntry desksOk desksIn hasNumber distinct channelsOk channelsIn planOk setOf firstOf refusalOf delivered toEach recordsOf spaceOf onChannel accepted stepOf ofDesk views
+witness = record {
+  related =
+      more (same refl) refl
+      (more (same refl) refl
+      (more (same refl) refl
+      (more (same refl) refl
+      (more (same refl) refl
+      (more (same refl) refl
+      (more (numbers 7 3 (digitsOf 8 990007) (digitsOf 8 990008) refl refl formed formed-too other) refl
+      none))))));
+  differ = λ p. let q : _≡_ {A = ℕ} 55 56 = ap last p in omega arith;
+  receives = refl;
+}

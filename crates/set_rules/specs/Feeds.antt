@@ -1,0 +1,82 @@
+-- One entry, and feeds: "a list of entries of any bytes, refused ones included, each with a lent buffer".
+use Prim.Native.Nat.{ℕ, zero, suc, _+_, _*_}
+use mathlib.Core.List.{List, [], _∷_, _++_}
+use mathlib.Core.Bool.{Bool, true, false, cond}
+use lib.Dec.{eqb, leb}
+use lib.ListN.{length, take, drop, getD}
+use Rattle.set_rules.specs.Entries.{readEntry, word}
+use Rattle.set_rules.specs.Refusals.{refusalOf}
+use Rattle.set_rules.specs.Records.{recordsOf, spaceOf}
+use Rattle.set_rules.specs.SetRules.{Effect, accepted}
+use Rattle.set_rules.specs.declared.state.LineSet.{LineSet}
+use Rattle.set_rules.specs.declared.state.Answer.{Answer}
+
+-- "The answer is the refusal number (0 if accepted), the byte count written, and the set after"; and the bytes written
+pub record Outcome : Type 0 where
+  pub refusal : ℕ
+  pub count : ℕ
+  pub after : LineSet
+  pub bytes : List ℕ
+
+abbrev pub answerOf : Outcome → Answer
+answerOf o = record { set = o .after; count = o .count; refusal = o .refusal }
+
+-- "Each refusal returns count 0 and leaves set and buffer untouched."
+abbrev pub refuse : ℕ → LineSet → Outcome
+refuse n s = record { refusal = n; count = 0; after = s; bytes = [] }
+
+-- 16: "the records don't fit the buffer"
+abbrev pub emit : LineSet → Effect → ℕ → Outcome
+emit s f room =
+    cond (leb (spaceOf (f .sent)) room)
+    (record { refusal = 0; count = spaceOf (f .sent); after = f .after; bytes = recordsOf (f .desks) (f .sent) })
+    (refuse 16 s)
+
+-- an entry of any bytes, before a set, with a buffer of so many bytes
+unfoldable pub stepOf : LineSet → List ℕ → ℕ → Outcome
+stepOf s e room =
+    cond (eqb (refusalOf s e (readEntry e)) 0)
+    (emit s (accepted s e (readEntry e)) room)
+    (refuse (refusalOf s e (readEntry e)) s)
+
+-- an entry with the length of its buffer
+pub record Item : Type 0 where
+  pub entry : List ℕ
+  pub room : ℕ
+
+abbrev pub stepBy : LineSet → Item → Outcome
+stepBy s i = stepOf s (i .entry) (i .room)
+
+-- "Each entry gets the set that the one before left"
+unfoldable pub run : LineSet → List Item → List Outcome
+run s [] = []
+run s (i ∷ is) = stepBy s i ∷ run (stepBy s i .after) is
+
+unfoldable pub after : LineSet → List Item → LineSet
+after s [] = s
+after s (i ∷ is) = after (stepBy s i .after) is
+
+-- ---- what a desk receives
+
+-- "it receives the records with that desk byte among the bytes written": the first k records at most
+unfoldable pub ofDesk : ℕ → ℕ → List ℕ → List ℕ
+ofDesk B zero bs = []
+ofDesk B (suc k) [] = []
+ofDesk B (suc k) (b ∷ bs) =
+    cond (eqb (getD (b ∷ bs) 3 256) B) (take (word (b ∷ bs) 0 + 2) (b ∷ bs)) [] ++ ofDesk B k (drop (word (b ∷ bs) 0 + 2) (b ∷ bs))
+
+abbrev pub received : ℕ → List ℕ → List ℕ
+received B bs = ofDesk B (length bs) bs
+
+-- what B gets of a feed: of each entry its refusal, its count and B's records
+pub record Seen : Type 0 where
+  pub refusal : ℕ
+  pub count : ℕ
+  pub records : List ℕ
+
+abbrev pub seenOf : ℕ → Outcome → Seen
+seenOf B o = record { refusal = o .refusal; count = o .count; records = received B (o .bytes) }
+
+unfoldable pub views : ℕ → LineSet → List Item → List Seen
+views B s [] = []
+views B s (i ∷ is) = seenOf B (stepBy s i) ∷ views B (stepBy s i .after) is

@@ -1,0 +1,119 @@
+-- 01, Line rules: what an accepted entry does to the set, and what it sends.
+use Prim.Native.Nat.{ℕ, _-_, _^_}
+use mathlib.Core.List.{List, [], _∷_, _++_}
+use mathlib.Core.Bool.{Bool, true, false, cond}
+use lib.Dec.{eqb}
+use lib.ListN.{drop, set}
+use Rattle.fields.specs.declared.digits.Digits.{Digits}
+use Rattle.fields.specs.declared.digits.Digits.the-variants.{Value, Malformed}
+use Rattle.telegram.specs.Telegram.{num, nth, readTelegram, rowOf, valuesOf}
+use Rattle.telegram.specs.declared.message.Number.{Number}
+use Rattle.telegram.specs.declared.message.Message.{Message}
+use Rattle.telegram.specs.declared.message.Message.the-variants.{TimeRequest, OperationRequest}
+use Rattle.telegram.specs.declared.message.Reading.{Reading}
+use Rattle.telegram.specs.declared.message.Reading.the-variants.{Telegram, Refused}
+use Rattle.channel.specs.Rules.{Context, Step, only, holderPlace, happens}
+use Rattle.channel.specs.Notices.{telegram}
+use Rattle.channel.specs.declared.state.Channel.{Channel}
+use Rattle.channel.specs.declared.state.Event.{Event}
+use Rattle.channel.specs.declared.state.Event.the-variants.{Capture, Release, Cut, PressOn, PressOff, MobileOn, MobileOff, Tick, Handover}
+use Rattle.set_rules.specs.State.{newSet, deskAt, channelsOf, placeIn, channelAt, listenersOf, withChannels, timeTold, answered, withLink}
+use Rattle.set_rules.specs.Entries.{telegramIn, planIn}
+use Rattle.set_rules.specs.Plan.{setOf}
+use Rattle.set_rules.specs.Records.{Delivery, delivered}
+use Rattle.set_rules.specs.declared.state.Desk.{Desk}
+use Rattle.set_rules.specs.declared.state.LineSet.{LineSet}
+use Rattle.set_rules.specs.declared.state.Entry.{Entry}
+
+-- the set after, what is sent, and the desks whose codes the records bear
+pub record Effect : Type 0 where
+  pub after : LineSet
+  pub sent : List Delivery
+  pub desks : List Desk
+
+abbrev pub effect : LineSet → LineSet → List Delivery → Effect
+effect s t vs = record { after = t; sent = vs; desks = s .desks }
+
+-- one telegram to a set of desks
+abbrev pub telegramTo : ℕ → Message → List Delivery
+telegramTo m message = record { recipients = m; content = λ d. telegram message } ∷ []
+
+-- ---- links
+
+-- "In phase 1 only 550411 is taken: it sends 550471, phase 2."
+abbrev pub timeTaken : LineSet → ℕ → Effect
+timeTaken s d = effect s (withLink d timeTold s) (telegramTo (only d) OperationRequest)
+
+-- "In phase 2 only 550421: state 1 gives phase 3, state 0 leaves phase 2; nothing is sent."
+abbrev pub answerTaken : LineSet → ℕ → ℕ → Effect
+answerTaken s d state = effect s (withLink d (answered state) s) []
+
+-- ---- channels
+
+-- the rule's context: d is the desk that holds the channel or asks for it
+abbrev pub contextOf : LineSet → Channel → ℕ → Context
+contextOf s c d = record { listeners = listenersOf s c; own = deskAt s d .number }
+
+-- an event on one channel, by its code
+unfoldable pub onChannel : LineSet → ℕ → ℕ → Event → Effect
+onChannel s ch d v =
+    effect s
+    (withChannels (set (s .channels) (placeIn s ch) (happens v (contextOf s (channelAt s ch) d) (channelAt s ch) .next)) s)
+    (delivered (channelAt s ch .code) (happens v (contextOf s (channelAt s ch) d) (channelAt s ch) .sends))
+
+-- an event by the holder, if there is one
+abbrev pub byHolder : LineSet → ℕ → Event → Effect
+byHolder s ch v = onChannel s ch (holderPlace (channelAt s ch .holder)) v
+
+-- an event on every channel of the plan, in its order
+abbrev pub happensIn : LineSet → Event → Channel → Step
+happensIn s v c = happens v (contextOf s c (holderPlace (c .holder))) c
+
+unfoldable pub nextsOf : LineSet → Event → List Channel → List Channel
+nextsOf s v [] = []
+nextsOf s v (c ∷ cs) = happensIn s v c .next ∷ nextsOf s v cs
+
+unfoldable pub sendsOf : LineSet → Event → List Channel → List Delivery
+sendsOf s v [] = []
+sendsOf s v (c ∷ cs) = delivered (c .code) (happensIn s v c .sends) ++ sendsOf s v cs
+
+-- "Tick, channels in plan order"
+unfoldable pub onTick : LineSet → Effect
+onTick s = effect s (withChannels (nextsOf s Tick (channelsOf s) ++ drop (s .size .channels) (s .channels)) s) (sendsOf s Tick (channelsOf s))
+
+-- "Handover, per channel in plan order .. Then the set is a new one, without plan."
+unfoldable pub onHandover : LineSet → Effect
+onHandover s = effect s newSet (sendsOf s Handover (channelsOf s))
+
+-- ---- entries
+
+-- "Accepting a plan sends 550461 to each desk."
+abbrev pub onPlan : List ℕ → Effect
+onPlan p = effect (setOf p) (setOf p) (telegramTo (2 ^ setOf p .size .desks - 1) TimeRequest)
+
+-- a desk's telegram, by its identifier; a 550600 has the channel, then its order, 1 to capture and 0 to release
+abbrev pub onMessage : LineSet → ℕ → ℕ → List ℕ → Effect
+onMessage s d id vs =
+    cond (eqb id 550411) (timeTaken s d)
+    (cond (eqb id 550421) (answerTaken s d (nth vs 1))
+    (onChannel s (nth vs 0) d (cond (eqb (nth vs 3) 1) (Capture d) (Release d))))
+
+abbrev pub onReading : LineSet → ℕ → Reading → Effect
+onReading s d (Telegram c m) = onMessage s d (rowOf m .id) (valuesOf m)
+onReading s d (Refused n c i) = effect s s []
+
+abbrev pub numberIn : Digits → Number
+numberIn (Value v) = num v
+numberIn Malformed = num 0
+
+-- what an accepted entry does, by its kind
+unfoldable pub accepted : LineSet → List ℕ → Entry → Effect
+accepted s e x =
+    cond (eqb (x .kind) 1) (onReading s (x .desk) (readTelegram (telegramIn e)))
+    (cond (eqb (x .kind) 2) (byHolder s (x .channel) (cond (eqb (x .on) 1) PressOn PressOff))
+    (cond (eqb (x .kind) 3) (byHolder s (x .channel) Cut)
+    (cond (eqb (x .kind) 4) (byHolder s (x .channel) (MobileOn (x .base) (numberIn (x .number))))
+    (cond (eqb (x .kind) 5) (byHolder s (x .channel) MobileOff)
+    (cond (eqb (x .kind) 6) (onTick s)
+    (cond (eqb (x .kind) 7) (onPlan (planIn e))
+    (onHandover s)))))))

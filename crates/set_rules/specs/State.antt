@@ -1,0 +1,92 @@
+-- The set: desks with their links, channels, and whether there is a plan.
+use Prim.Native.Nat.{ℕ, suc, _+_}
+use mathlib.Core.List.{List, [], _∷_, _++_}
+use mathlib.Core.Bool.{Bool, true, false, _&&_, cond}
+use lib.Dec.{eqb, ltb, leb}
+use lib.ListN.{length, take, drop, getD, replicate, set}
+use Rattle.telegram.specs.Telegram.{num}
+use Rattle.channel.specs.Rules.{freeChannel, only, isIn}
+use Rattle.channel.specs.declared.state.Channel.{Channel}
+use Rattle.set_rules.specs.declared.state.Link.{Link}
+use Rattle.set_rules.specs.declared.state.Desk.{Desk}
+use Rattle.set_rules.specs.declared.state.Size.{Size}
+use Rattle.set_rules.specs.declared.state.LineSet.{LineSet}
+
+-- "Each desk's link goes through three phases"
+abbrev pub newLink : Link
+newLink = record { phase = 1 }
+
+-- "In phase 1 only 550411 is taken: .. phase 2"
+abbrev pub timeTold : Link → Link
+timeTold l = record { phase = 2 }
+
+-- "In phase 2 only 550421: state 1 gives phase 3, state 0 leaves phase 2"
+abbrev pub answered : ℕ → Link → Link
+answered state l = cond (eqb state 1) (record { phase = 3 }) l
+
+-- what fills the arrays past the plan
+abbrev pub noDesk : Desk
+noDesk = record { code = 0; number = num 0; link = newLink }
+
+abbrev pub noChannel : Channel
+noChannel = freeChannel 0 0
+
+-- "a new one, without plan"
+abbrev pub newSet : LineSet
+newSet = record { channels = replicate 32 noChannel; desks = replicate 4 noDesk; size = record { desks = 0; channels = 0 }; planned = false }
+
+-- ---- what the plan has
+
+-- "a desk by its place in the plan from 0"
+abbrev pub hasDesk : LineSet → ℕ → Bool
+hasDesk s d = ltb d (s .size .desks)
+
+abbrev pub deskAt : LineSet → ℕ → Desk
+deskAt s d = getD (s .desks) d noDesk
+
+-- the channels of the plan
+abbrev pub channelsOf : LineSet → List Channel
+channelsOf s = take (s .size .channels) (s .channels)
+
+-- the place of the first channel with this code; the number of channels, if there is none
+unfoldable pub placeOf : ℕ → List Channel → ℕ
+placeOf code [] = 0
+placeOf code (c ∷ cs) = cond (eqb (c .code) code) 0 (1 + placeOf code cs)
+
+-- "A channel goes by its code"
+abbrev pub placeIn : LineSet → ℕ → ℕ
+placeIn s code = placeOf code (channelsOf s)
+
+abbrev pub hasChannel : LineSet → ℕ → Bool
+hasChannel s code = ltb (placeIn s code) (length (channelsOf s))
+
+abbrev pub channelAt : LineSet → ℕ → Channel
+channelAt s code = getD (channelsOf s) (placeIn s code) noChannel
+
+-- phase 3 is running
+abbrev pub isRunning : Desk → Bool
+isRunning k = eqb (k .link .phase) 3
+
+-- those of a list of desks, from place d on, that are running and in the mask
+unfoldable pub runningFrom : ℕ → ℕ → List Desk → ℕ
+runningFrom d m [] = 0
+runningFrom d m (k ∷ ks) = cond (isRunning k && isIn d m) (only d) 0 + runningFrom (suc d) m ks
+
+-- "E is the set of running entitled desks"
+abbrev pub listenersOf : LineSet → Channel → ℕ
+listenersOf s c = runningFrom 0 (c .entitled) (take (s .size .desks) (s .desks))
+
+-- ---- a set with one part changed
+
+abbrev pub withDesks : List Desk → LineSet → LineSet
+withDesks ds s = record { channels = s .channels; desks = ds; size = s .size; planned = s .planned }
+
+abbrev pub withChannels : List Channel → LineSet → LineSet
+withChannels cs s = record { channels = cs; desks = s .desks; size = s .size; planned = s .planned }
+
+-- a desk with its link changed
+abbrev pub linked : (Link → Link) → Desk → Desk
+linked f k = record { code = k .code; number = k .number; link = f (k .link) }
+
+abbrev pub withLink : ℕ → (Link → Link) → LineSet → LineSet
+withLink d f s = withDesks (set (s .desks) d (linked f (deskAt s d))) s
