@@ -1,2 +1,5 @@
 pub mod Veil
 pub mod Traps
+pub mod Scripts
+pub mod Ticks
+pub mod Sets

@@ -127,3 +127,17 @@ pub struct Send {
     pub recipients: u8,
     pub notice: Notice,
 }
+
+// A channel after an event, and what the event sends: in the rule's order, with sends to the empty set where the rule
+// sends nothing.
+pub struct Moved {
+    pub next: Channel,
+    pub sends: [Send; 7],
+}
+
+// The timer that falls at a tick.
+pub enum Falling {
+    Neither,
+    Quiet,
+    Release,
+}

@@ -1,0 +1,37 @@
+-- How the code keeps what a rule sends: an array of seven sends in the rule's order, with a send to the empty set where the
+-- rule sends nothing.
+use Prim.Native.Nat.{ℕ}
+use mathlib.Core.List.{List, [], _∷_}
+use mathlib.Core.Bool.{Bool, true, false, cond}
+use mathlib.Core.Path.{_≡_}
+use lib.Dec.{eqb, ltb}
+use Rattle.telegram.specs.declared.message.Number.{Number}
+use Rattle.channel.specs.Rules.{Context, Step, isHeld, isPresent}
+use Rattle.channel.specs.declared.state.Channel.{Channel}
+use Rattle.channel.specs.declared.state.Moved.{Moved}
+use Rattle.channel.specs.declared.state.Send.{Send}
+use Rattle.channel.specs.declared.state.Falling.{Falling}
+use Rattle.channel.specs.declared.state.Falling.the-variants.{Neither, Quiet, Release}
+
+-- what is sent to someone
+unfoldable pub heard : List Send → List Send
+heard [] = []
+heard (s ∷ ss) = cond (eqb (s .recipients) 0) (heard ss) (s ∷ heard ss)
+
+abbrev pub context : ℕ → Number → Context
+context e n = record { listeners = e; own = n }
+
+-- whether anything is sent
+abbrev pub any : List Send → Bool
+any [] = false
+any (s ∷ ss) = true
+
+-- the code gives the channel and the sends of a rule
+abbrev pub Follows : Moved → Step → Type 0
+Follows m st = (m .next ≡ st .next) × (heard (m .sends) ≡ heard (st .sends))
+
+-- which timer falls at a tick
+unfoldable pub falling : Channel → Falling
+falling c =
+    cond (c .pressed) Neither
+    (cond (isPresent (c .arrival)) Neither (cond (ltb 0 (c .quiet)) Quiet (cond (isHeld (c .holder)) Release Neither)))
