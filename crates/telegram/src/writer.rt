@@ -101,6 +101,7 @@ fn copy(bytes: [u8; 46], n: usize, buffer: &mut [u8]) -> usize
     n
 }
 
+// Each of these writes a message of one kind, under the terms of `put` below.
 fn put_time_notice(m: TimeNotice, code: u32, buffer: &mut [u8]) -> usize
     requires { ⌜ sizeOf (Message.TimeNotice m) ≤ length (now buffer) ⌝ }
     ensures { λ r. ⌜ r ≡ sizeOf (Message.TimeNotice m) ⌝ }
@@ -127,7 +128,7 @@ fn put_operation_answer(m: OperationAnswer, code: u32, buffer: &mut [u8]) -> usi
     copy(t, 18, buffer)
 }
 
-fn put_time_request(code: u32, buffer: &mut [u8]) -> usize
+pub fn put_time_request(code: u32, buffer: &mut [u8]) -> usize
     requires { ⌜ sizeOf Message.TimeRequest ≤ length (now buffer) ⌝ }
     ensures { λ r. ⌜ r ≡ sizeOf Message.TimeRequest ⌝ }
     ensures { λ r. ⌜ now (buffer .exit) ≡ over (telegramOf code Message.TimeRequest) (now (buffer .entry)) ⌝ }
@@ -136,7 +137,7 @@ fn put_time_request(code: u32, buffer: &mut [u8]) -> usize
     copy(t, 16, buffer)
 }
 
-fn put_base_arrival(m: BaseArrival, code: u32, buffer: &mut [u8]) -> usize
+pub fn put_base_arrival(m: BaseArrival, code: u32, buffer: &mut [u8]) -> usize
     requires { ⌜ sizeOf (Message.BaseArrival m) ≤ length (now buffer) ⌝ }
     ensures { λ r. ⌜ r ≡ sizeOf (Message.BaseArrival m) ⌝ }
     ensures { λ r. ⌜ now (buffer .exit) ≡ over (telegramOf code (Message.BaseArrival m)) (now (buffer .entry)) ⌝ }
@@ -150,7 +151,7 @@ fn put_base_arrival(m: BaseArrival, code: u32, buffer: &mut [u8]) -> usize
     copy(t, 32, buffer)
 }
 
-fn put_operation_request(code: u32, buffer: &mut [u8]) -> usize
+pub fn put_operation_request(code: u32, buffer: &mut [u8]) -> usize
     requires { ⌜ sizeOf Message.OperationRequest ≤ length (now buffer) ⌝ }
     ensures { λ r. ⌜ r ≡ sizeOf Message.OperationRequest ⌝ }
     ensures { λ r. ⌜ now (buffer .exit) ≡ over (telegramOf code Message.OperationRequest) (now (buffer .entry)) ⌝ }
@@ -159,7 +160,7 @@ fn put_operation_request(code: u32, buffer: &mut [u8]) -> usize
     copy(t, 16, buffer)
 }
 
-fn put_call(m: Call, code: u32, buffer: &mut [u8]) -> usize
+pub fn put_call(m: Call, code: u32, buffer: &mut [u8]) -> usize
     requires { ⌜ sizeOf (Message.Call m) ≤ length (now buffer) ⌝ }
     ensures { λ r. ⌜ r ≡ sizeOf (Message.Call m) ⌝ }
     ensures { λ r. ⌜ now (buffer .exit) ≡ over (telegramOf code (Message.Call m)) (now (buffer .entry)) ⌝ }
@@ -179,7 +180,7 @@ fn put_call(m: Call, code: u32, buffer: &mut [u8]) -> usize
     copy(t, 46, buffer)
 }
 
-fn put_caller_notice(m: CallerNotice, code: u32, buffer: &mut [u8]) -> usize
+pub fn put_caller_notice(m: CallerNotice, code: u32, buffer: &mut [u8]) -> usize
     requires { ⌜ sizeOf (Message.CallerNotice m) ≤ length (now buffer) ⌝ }
     ensures { λ r. ⌜ r ≡ sizeOf (Message.CallerNotice m) ⌝ }
     ensures { λ r. ⌜ now (buffer .exit) ≡ over (telegramOf code (Message.CallerNotice m)) (now (buffer .entry)) ⌝ }
@@ -207,7 +208,7 @@ fn put_capture_request(m: CaptureRequest, code: u32, buffer: &mut [u8]) -> usize
     copy(t, 29, buffer)
 }
 
-fn put_capture_reply(m: CaptureReply, code: u32, buffer: &mut [u8]) -> usize
+pub fn put_capture_reply(m: CaptureReply, code: u32, buffer: &mut [u8]) -> usize
     requires { ⌜ sizeOf (Message.CaptureReply m) ≤ length (now buffer) ⌝ }
     ensures { λ r. ⌜ r ≡ sizeOf (Message.CaptureReply m) ⌝ }
     ensures { λ r. ⌜ now (buffer .exit) ≡ over (telegramOf code (Message.CaptureReply m)) (now (buffer .entry)) ⌝ }
@@ -218,7 +219,7 @@ fn put_capture_reply(m: CaptureReply, code: u32, buffer: &mut [u8]) -> usize
     copy(t, 20, buffer)
 }
 
-fn put_capture_state(m: CaptureState, code: u32, buffer: &mut [u8]) -> usize
+pub fn put_capture_state(m: CaptureState, code: u32, buffer: &mut [u8]) -> usize
     requires { ⌜ sizeOf (Message.CaptureState m) ≤ length (now buffer) ⌝ }
     ensures { λ r. ⌜ r ≡ sizeOf (Message.CaptureState m) ⌝ }
     ensures { λ r. ⌜ now (buffer .exit) ≡ over (telegramOf code (Message.CaptureState m)) (now (buffer .entry)) ⌝ }
