@@ -1,0 +1,4 @@
+pub mod Writing
+pub mod RecordLaws
+pub mod SendLaws
+pub mod Heard

@@ -1,0 +1,76 @@
+-- `records::measure::space` meets its contract. The invariant: what is summed up so far and the space of the sends that are left make the
+-- whole, whichever channel it is.
+-- Assumes nothing.
+use Prim.Native.Nat.{ℕ, _+_, _*_, _-_, _≤_, _<_}
+use mathlib.Core.Path.{_≡_}
+use native.Mathlib.Nat.{zero-add}
+use native.Mathlib.Omega.{arith}
+use lib.ListN.{length, drop}
+use Rattle.set_rules.specs.Records.{delivered, spaceOf}
+use Rattle.records.proofs.SendLaws.{space-next, space-end}
+use borrow.Author.Needs.{needs}
+use Rattle.records.proofs.measure.space.Statement.{statement}
+use Rattle.records.proofs.measure.space.Tie as tie
+
+abbrev Inv-loop : tie.InvT-loop
+Inv-loop sends sum₀ k₀ sum k = ((ch : ℕ) → sum + spaceOf (delivered ch (drop k sends)) ≡ spaceOf (delivered ch sends)) × (sum ≤ k * 408) × (k ≤ 7)
+
+abbrev μ-loop : tie.MeasureT-loop
+μ-loop sends sum₀ k₀ sum k = 7 - k
+
+loop-holds : tie.Need-loop-holds Inv-loop μ-loop
+loop-holds c = (λ ch. zero-add _, omega arith, omega arith)
+
+mul-s : tie.Need-mul-s Inv-loop μ-loop
+mul-s c = search needs
+
+array-copy-out-s : tie.Need-array-copy-out-s Inv-loop μ-loop
+array-copy-out-s c = search needs
+
+notice-size-requires : tie.Need-notice-size-requires Inv-loop μ-loop
+notice-size-requires c κs = search needs
+
+space-of-requires : tie.Need-space-of-requires Inv-loop μ-loop
+space-of-requires c κs = c .notice-size .ensures .1
+
+add-sum : tie.Need-add-sum Inv-loop μ-loop
+add-sum c = omega (arith, c .space-of .ensures .1)
+
+add-k : tie.Need-add-k Inv-loop μ-loop
+add-k c = search needs
+
+loop-less : tie.Need-loop-less Inv-loop μ-loop
+loop-less c = search needs
+
+loop-again : tie.Need-loop-again Inv-loop μ-loop
+loop-again c =
+    let l = c .before .before .before .before .loop in
+    let ss = c .before .before .before .before .before .args .t1 in
+    let n : length ss ≡ 7 = search needs in
+    let h : l .k < length ss = omega (arith, n) in
+    (λ ch. space-next ch ss (l .k) _ (l .sum) h (l .inv .0 ch) (c .before .notice-size .ensures .0) (c .space-of .ensures .0), omega (arith, c .space-of .ensures .1), omega arith)
+
+returns : tie.Need-returns Inv-loop μ-loop
+returns c =
+    let l = c .before .loop in
+    let ss = c .before .before .args .t1 in
+    let n : length ss ≡ 7 = search needs in
+    let h : length ss ≤ l .k = omega (arith, n) in
+    (λ ch. omega (arith, l .inv .0 ch, space-end ch ss (l .k) h), omega arith)
+
+pub space-spec : {M : Type 1} → statement M
+space-spec =
+    tie.close
+    (tie.spec
+    Inv-loop
+    μ-loop
+    loop-holds
+    mul-s
+    array-copy-out-s
+    notice-size-requires
+    space-of-requires
+    add-sum
+    add-k
+    loop-less
+    loop-again
+    returns)

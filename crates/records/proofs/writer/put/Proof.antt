@@ -1,0 +1,72 @@
+-- `records::writer::put` meets its contract. The invariant: the records of the sends from k on are left.
+-- Assumes nothing.
+use Prim.Native.Nat.{_-_, _≤_}
+use mathlib.Core.Path.{_≡_}
+use native.Mathlib.Omega.{arith}
+use lib.ListN.{length, drop}
+use Rattle.set_rules.specs.Records.{recordsOf, delivered}
+use Rattle.records.proofs.Writing.{Writing, start, next, room, done}
+use Rattle.records.proofs.SendLaws.{send-turn, send-end}
+use borrow.Author.Needs.{needs}
+use Rattle.records.proofs.writer.put.Statement.{statement}
+use Rattle.records.proofs.writer.put.Tie as tie
+
+abbrev Inv-loop : tie.InvT-loop
+Inv-loop buffer₀ at desks channel sends p₀ k₀ buffer p k = Writing buffer₀ at (recordsOf desks (delivered channel sends)) buffer p (recordsOf desks (delivered channel (drop k sends))) × (k ≤ 7)
+
+abbrev μ-loop : tie.MeasureT-loop
+μ-loop buffer₀ at desks channel sends p₀ k₀ buffer p k = 7 - k
+
+loop-holds : tie.Need-loop-holds Inv-loop μ-loop
+loop-holds c = (start _ _ _, omega arith)
+
+mul-s : tie.Need-mul-s Inv-loop μ-loop
+mul-s c = search needs
+
+array-copy-out-s : tie.Need-array-copy-out-s Inv-loop μ-loop
+array-copy-out-s c = search needs
+
+put-send-requires : tie.Need-put-send-requires Inv-loop μ-loop
+put-send-requires c κs =
+    let l = c .before .before .before .loop in
+    let st = c .before .before .before .before .before in
+    let n : length (st .args .t5) ≡ 7 = search needs in
+    room (l .inv .0) (send-turn _ _ _ (l .k) _ (omega (arith, n))) (st .pre)
+
+add-k : tie.Need-add-k Inv-loop μ-loop
+add-k c = search needs
+
+loop-less : tie.Need-loop-less Inv-loop μ-loop
+loop-less c = search needs
+
+loop-again : tie.Need-loop-again Inv-loop μ-loop
+loop-again c =
+    let l = c .before .before .before .before .before .before .loop in
+    let e = c .before .before .put-send .ensures in
+    let n : length (c .before .before .before .before .before .before .before .before .args .t5) ≡ 7 = search needs in
+    (next (l .inv .0) (send-turn _ _ _ (l .k) _ (omega (arith, n))) (e .0) (e .1), omega arith)
+
+same-length : tie.Need-same-length Inv-loop μ-loop
+same-length c = c .before .loop .inv .0 .same
+
+returns : tie.Need-returns Inv-loop μ-loop
+returns c =
+    let l = c .before .loop in
+    let n : length (c .before .before .before .args .t5) ≡ 7 = search needs in
+    done (l .inv .0) (send-end _ _ _ (l .k) (omega (arith, n)))
+
+pub put-spec : {M : Type 1} → statement M
+put-spec =
+    tie.close
+    (tie.spec
+    Inv-loop
+    μ-loop
+    loop-holds
+    mul-s
+    array-copy-out-s
+    put-send-requires
+    add-k
+    loop-less
+    loop-again
+    same-length
+    returns)

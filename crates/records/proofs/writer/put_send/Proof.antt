@@ -1,0 +1,27 @@
+-- `records::writer::put_send` meets its contract: to nobody there are no records.
+-- Assumes nothing.
+use mathlib.Core.Path.{_∙_}
+use Rattle.records.specs.Emitting.{deliveryOf}
+use Rattle.records.proofs.Writing.{start, done}
+use Rattle.records.proofs.RecordLaws.{records-one}
+use Rattle.records.proofs.SendLaws.{nobody}
+use borrow.Author.Needs.{needs}
+use Rattle.records.proofs.writer.put_send.Statement.{statement}
+use Rattle.records.proofs.writer.put_send.Tie as tie
+
+put-to-requires : tie.Need-put-to-requires
+put-to-requires c κs = search needs
+
+same-length : tie.Need-same-length
+same-length c = search needs
+
+returns : tie.Need-returns
+returns c = search needs
+
+returns-2 : tie.Need-returns-2
+returns-2 c =
+    let a = c .before .before .before .args in
+    done (start _ _ _) (records-one (a .desks) (deliveryOf (a .channel) (a .s)) ∙ nobody (a .desks) (deliveryOf (a .channel) (a .s)) (c .if1 .left))
+
+pub put-send-spec : {M : Type 1} → statement M
+put-send-spec = tie.close (tie.spec put-to-requires same-length returns returns-2)
