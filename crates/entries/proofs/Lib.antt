@@ -1,0 +1,4 @@
+pub mod Filled
+pub mod Turns
+pub mod Pairs
+pub mod Answers

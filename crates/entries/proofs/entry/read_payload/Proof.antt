@@ -1,0 +1,91 @@
+-- `entries::entry::read_payload` meets its contract: each kind by its reader.
+-- Assumes nothing.
+use mathlib.Core.Bool.{or-false, and-true}
+use borrow.Author.Tests.{ne-eqb}
+use Rattle.entries.specs.Payloads.{payloadIn, bareIn}
+use borrow.Author.Needs.{needs}
+use Rattle.entries.proofs.entry.read_payload.Statement.{statement}
+use Rattle.entries.proofs.entry.read_payload.Tie as tie
+
+read-telegram-requires : tie.Need-read-telegram-requires
+read-telegram-requires c κs = search needs
+
+read-press-requires : tie.Need-read-press-requires
+read-press-requires c κs = search needs
+
+read-cut-requires : tie.Need-read-cut-requires
+read-cut-requires c κs = search needs
+
+read-mobile-on-requires : tie.Need-read-mobile-on-requires
+read-mobile-on-requires c κs = search needs
+
+read-mobile-off-requires : tie.Need-read-mobile-off-requires
+read-mobile-off-requires c κs = search needs
+
+read-bare-requires : tie.Need-read-bare-requires
+read-bare-requires c κs = search needs
+
+asks-requires : tie.Need-asks-requires
+asks-requires c κs = search needs
+
+read-bare-requires-2 : tie.Need-read-bare-requires-2
+read-bare-requires-2 c κs = search needs
+
+refused-requires : tie.Need-refused-requires
+refused-requires c κs = search needs
+
+returns : tie.Need-returns
+returns c = rw (c .before .match .keys1) (c .read-telegram .ensures)
+
+returns-2 : tie.Need-returns-2
+returns-2 c = rw (c .before .match .keys2) (c .read-press .ensures)
+
+returns-3 : tie.Need-returns-3
+returns-3 c = rw (c .before .match .keys3) (c .read-cut .ensures)
+
+returns-4 : tie.Need-returns-4
+returns-4 c = rw (c .before .match .keys4) (c .read-mobile-on .ensures)
+
+returns-5 : tie.Need-returns-5
+returns-5 c = rw (c .before .match .keys5) (c .read-mobile-off .ensures)
+
+returns-6 : tie.Need-returns-6
+unfolding payloadIn bareIn
+returns-6 c = rw (c .before .match .keys6) (simp (or-false, and-true) (c .read-bare .ensures))
+
+returns-7 : tie.Need-returns-7
+unfolding payloadIn
+returns-7 c = rw (c .before .match .keys7) (c .asks .ensures)
+
+returns-8 : tie.Need-returns-8
+unfolding payloadIn bareIn
+returns-8 c = rw (c .before .match .keys8) (simp and-true (c .read-bare2 .ensures))
+
+returns-9 : tie.Need-returns-9
+unfolding payloadIn
+returns-9 c =
+    let r = c .before .match .rest in
+    simp (ne-eqb _ _ (r .0 .0 .0 .0 .0 .0 .0 .1), ne-eqb _ _ (r .0 .0 .0 .0 .0 .0 .1), ne-eqb _ _ (r .0 .0 .0 .0 .0 .1), ne-eqb _ _ (r .0 .0 .0 .0 .1), ne-eqb _ _ (r .0 .0 .0 .1), ne-eqb _ _ (r .0 .0 .1), ne-eqb _ _ (r .0 .1), ne-eqb _ _ (r .1)) (c .refused .ensures)
+
+pub read-payload-spec : {M : Type 1} → statement M
+read-payload-spec =
+    tie.close
+    (tie.spec
+    read-telegram-requires
+    read-press-requires
+    read-cut-requires
+    read-mobile-on-requires
+    read-mobile-off-requires
+    read-bare-requires
+    asks-requires
+    read-bare-requires-2
+    refused-requires
+    returns
+    returns-2
+    returns-3
+    returns-4
+    returns-5
+    returns-6
+    returns-7
+    returns-8
+    returns-9)

@@ -1,0 +1,14 @@
+-- `entries::plan::no_plan` meets its contract: a new set.
+-- Assumes nothing.
+use borrow.Author.Needs.{needs}
+use Rattle.entries.proofs.plan.no_plan.Statement.{statement}
+use Rattle.entries.proofs.plan.no_plan.Tie as tie
+
+new-requires : tie.Need-new-requires
+new-requires c κs = search needs
+
+returns : tie.Need-returns
+returns c = rw (c .new .ensures)
+
+pub no-plan-spec : {M : Type 1} → statement M
+no-plan-spec = tie.close (tie.spec new-requires returns)
