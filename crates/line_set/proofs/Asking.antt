@@ -1,0 +1,84 @@
+-- Plans and requests: which outcome each test of the code leads to.
+-- Assumes nothing.
+use Prim.Native.Nat.{ℕ, _≤_}
+use mathlib.Core.List.{List}
+use mathlib.Core.Bool.{Bool, true, false, _&&_, cond, false≢true}
+use mathlib.Core.Path.{_≡_, refl, sym, ap, _∙_}
+use lib.Dec.{eqb, leb}
+use borrow.Author.Tests.{eq-eqb, ne-eqb, leb-true}
+use Rattle.channel.specs.declared.state.Event.the-variants.{Capture, Release}
+use Rattle.entries.specs.Planned.{planOf}
+use Rattle.set_rules.specs.State.{hasDesk, deskAt, hasChannel, channelAt}
+use Rattle.set_rules.specs.Plan.{deskCount, planOk, setOf}
+use Rattle.set_rules.specs.SetRules.{timeTaken, answerTaken, onChannel, onPlan}
+use Rattle.set_rules.specs.Feeds.{refuse, emit}
+use Rattle.set_rules.specs.declared.state.LineSet.{LineSet}
+use Rattle.line_set.specs.Judging.{requestRefusal}
+use Rattle.line_set.specs.Steps.{judged, requestEffect, requestOutcome, planOutcome}
+use Rattle.line_set.specs.declared.request.Request.{Request}
+
+-- ---- plans
+
+module _ (s : LineSet) (p : List ℕ) (n : ℕ) where
+  pub plan-present : s .planned ≡ true → refuse 5 s ≡ planOutcome s p n
+  unfolding planOutcome
+  plan-present h = ap (λ (t : Bool). cond t (refuse 5 s) (cond (planOk p) (emit s (onPlan p) n) (refuse 6 s))) (sym h)
+
+  pub plan-bad : s .planned ≡ false → planOk p ≡ false → refuse 6 s ≡ planOutcome s p n
+  unfolding planOutcome
+  plan-bad h k =
+      ap (λ (t : Bool). cond t (emit s (onPlan p) n) (refuse 6 s)) (sym k)
+      ∙ ap (λ (t : Bool). cond t (refuse 5 s) (cond (planOk p) (emit s (onPlan p) n) (refuse 6 s))) (sym h)
+
+  pub plan-good : s .planned ≡ false → planOk p ≡ true → emit s (onPlan p) n ≡ planOutcome s p n
+  unfolding planOutcome
+  plan-good h k =
+      ap (λ (t : Bool). cond t (emit s (onPlan p) n) (refuse 6 s)) (sym k)
+      ∙ ap (λ (t : Bool). cond t (refuse 5 s) (cond (planOk p) (emit s (onPlan p) n) (refuse 6 s))) (sym h)
+
+pub plan-ok : (p : List ℕ) → planOf p .ok ≡ planOk p
+unfolding planOf
+plan-ok p = go (planOk p) refl
+  where
+    go : (t : Bool) → planOk p ≡ t → planOf p .ok ≡ planOk p
+    go true k = rw k
+    go false k = rw k
+
+pub plan-set : (p : List ℕ) → planOk p ≡ true → planOf p .set ≡ setOf p
+unfolding planOf
+plan-set p k = rw k
+
+and-left : (a b : Bool) → (a && b) ≡ true → a ≡ true
+and-left true b h = refl
+and-left false b h = h
+
+and-right : (a b : Bool) → (a && b) ≡ true → b ≡ true
+and-right true b h = h
+and-right false b h = absurd (false≢true h)
+
+-- a plan has at most four desks
+pub desks-few : (p : List ℕ) → planOk p ≡ true → setOf p .size .desks ≤ 4
+unfolding planOk setOf
+desks-few p h =
+    leb-true (deskCount p) 4 (and-right (leb 1 (deskCount p)) _ (and-left _ _ (and-left _ _ (and-left _ _ (and-left _ _ (and-left _ _ h))))))
+
+-- ---- requests
+
+module _ (s : LineSet) (d : ℕ) (q : Request) where
+  pub by-time : q .identifier ≡ 550411 → timeTaken s d ≡ requestEffect s d q
+  by-time h = rw (eq-eqb _ _ h) refl
+
+  pub by-answer : q .identifier ≡ 550421 → answerTaken s d (q .flag) ≡ requestEffect s d q
+  by-answer h = rw h refl
+
+  pub by-order : (q .identifier ≡ 550411 → ⊥) → (q .identifier ≡ 550421 → ⊥) → onChannel s (q .channel) d (cond (eqb (q .flag) 1) (Capture d) (Release d)) ≡ requestEffect s d q
+  by-order h k = rw (ne-eqb _ _ h, ne-eqb _ _ k) refl
+
+  module _ (n : ℕ) where
+    pub no-desk : hasDesk s d ≡ false → refuse 7 s ≡ requestOutcome s d q n
+    unfolding requestOutcome
+    no-desk h = ap (λ (t : Bool). cond t (judged s (requestRefusal q d (deskAt s d) (hasChannel s (q .channel)) (channelAt s (q .channel))) (requestEffect s d q) n) (refuse 7 s)) (sym h)
+
+    pub with-desk : hasDesk s d ≡ true → judged s (requestRefusal q d (deskAt s d) (hasChannel s (q .channel)) (channelAt s (q .channel))) (requestEffect s d q) n ≡ requestOutcome s d q n
+    unfolding requestOutcome
+    with-desk h = ap (λ (t : Bool). cond t (judged s (requestRefusal q d (deskAt s d) (hasChannel s (q .channel)) (channelAt s (q .channel))) (requestEffect s d q) n) (refuse 7 s)) (sym h)

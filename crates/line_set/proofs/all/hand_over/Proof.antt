@@ -1,0 +1,63 @@
+-- `line_set::all::hand_over` meets its contract: the space is counted, then the records are written, and the set is a new one.
+-- Assumes nothing.
+use Prim.Native.Nat.{ℕ}
+use mathlib.Core.Path.{ap₂}
+use native.Mathlib.Omega.{arith}
+use denote.Ref.{now}
+use Rattle.set_rules.specs.declared.state.LineSet.{LineSet}
+use Rattle.set_rules.specs.declared.state.Answer.{Answer}
+use Rattle.channel.specs.declared.state.Event.the-variants.{Handover}
+use Rattle.set_rules.specs.State.{channelsOf}
+use Rattle.set_rules.specs.SetRules.{sendsOf, onHandover}
+use Rattle.set_rules.proofs.Answers.{even-all, space-length}
+use Rattle.line_set.proofs.Emission.{no-room, emitted}
+use borrow.Author.Needs.{needs}
+use Rattle.line_set.proofs.all.hand_over.Statement.{statement}
+use Rattle.line_set.proofs.all.hand_over.Tie as tie
+
+abbrev answer : LineSet → ℕ → Answer
+answer t n = record { set = t; count = n; refusal = 0 }
+
+space-all-requires : tie.Need-space-all-requires
+space-all-requires c κs = search needs
+
+refuse-requires : tie.Need-refuse-requires
+refuse-requires c κs = search needs
+
+returns : tie.Need-returns
+unfolding onHandover
+returns c =
+    let st = c .before .before .before .before in
+    no-room (st .args .set) (onHandover (st .args .set)) (now (st .args .buffer)) (omega (arith, c .before .before .space-all .ensures, c .before .if1 .taken)) (c .refuse .ensures)
+
+put-all-requires : tie.Need-put-all-requires
+put-all-requires c κs =
+    let st = c .before .before .before .before in
+    let s = st .args .set in
+    omega (arith, c .before .before .space-all .ensures, space-length (s .desks) (sendsOf s Handover (channelsOf s)) (even-all s Handover (channelsOf s)), c .before .if1 .left)
+
+new-requires : tie.Need-new-requires
+new-requires c κs = search needs
+
+same-length : tie.Need-same-length
+same-length c = search needs
+
+returns-2 : tie.Need-returns-2
+unfolding onHandover
+returns-2 c =
+    let st = c .before .before .before .before .before .before .before .before in
+    let s = st .args .set in
+    emitted s (onHandover s) (now (st .args .buffer)) (omega (arith, c .before .before .before .before .before .before .space-all .ensures, c .before .before .before .before .before .if1 .left)) (even-all s Handover (channelsOf s)) (c .before .before .before .put-all .ensures .1)
+    (ap₂ (λ (t : LineSet) (n : ℕ). answer t n) (c .new .ensures) (c .before .before .before .before .before .before .space-all .ensures))
+
+pub hand-over-spec : {M : Type 1} → statement M
+hand-over-spec =
+    tie.close
+    (tie.spec
+    space-all-requires
+    refuse-requires
+    returns
+    put-all-requires
+    new-requires
+    same-length
+    returns-2)

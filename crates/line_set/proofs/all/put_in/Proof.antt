@@ -1,0 +1,64 @@
+-- `line_set::all::put_in` meets its contract: a channel at rest sends nothing.
+-- Assumes nothing.
+use Prim.Native.Nat.{ℕ, _+_}
+use mathlib.Core.List.{List}
+use mathlib.Core.Path.{sym, ap, _∙_}
+use native.Mathlib.Omega.{arith}
+use lib.ListN.{length}
+use denote.Ref.{now}
+use borrow.Author.Tests.{not-true}
+use Rattle.channel.specs.Rules.{holderPlace, happens}
+use Rattle.channel.specs.Scripts.{heard}
+use Rattle.records.specs.Emitting.{written}
+use Rattle.records.proofs.Writing.{written-none}
+use Rattle.set_rules.specs.Records.{delivered, recordsOf}
+use Rattle.line_set.specs.Steps.{contextIn, sendsIn}
+use Rattle.line_set.proofs.Emission.{same-records, nothing-sent}
+use borrow.Author.Needs.{needs}
+use Rattle.line_set.proofs.all.put_in.Statement.{statement}
+use Rattle.line_set.proofs.all.put_in.Tie as tie
+
+sends-any-requires : tie.Need-sends-any-requires
+sends-any-requires c κs = search needs
+
+returns : tie.Need-returns
+unfolding recordsOf delivered
+returns c =
+    let st = c .before .before .before in
+    let x = contextIn (st .args .desks) (st .args .n) (st .args .c) (holderPlace (st .args .c .holder)) in
+    let e = nothing-sent (sendsIn (st .args .desks) (st .args .n) (st .args .event) (st .args .c)) (sym (c .before .sends-any .ensures x) ∙ not-true _ (c .if1 .taken)) in
+    (rw e (omega arith), rw e (sym (written-none _ _)))
+
+holder-place-requires : tie.Need-holder-place-requires
+holder-place-requires c κs = search needs
+
+moved-requires : tie.Need-moved-requires
+moved-requires c κs = search needs
+
+put-requires : tie.Need-put-requires
+put-requires c κs =
+    let st = c .before .before .before .before .before .before .before in
+    let h = c .before .before .moved .ensures .1 ∙ ap (λ (d : ℕ). heard (happens (st .args .event) (contextIn (st .args .desks) (st .args .n) (st .args .c) d) (st .args .c) .sends)) (c .before .before .before .holder-place .ensures) in
+    rw (same-records (st .args .desks) (st .args .c .code) _ _ h) (st .pre)
+
+same-length : tie.Need-same-length
+same-length c = search needs
+
+returns-2 : tie.Need-returns-2
+returns-2 c =
+    let st = c .before .before .before .before .before .before .before .before .before .before in
+    let h = c .before .before .before .before .before .moved .ensures .1 ∙ ap (λ (d : ℕ). heard (happens (st .args .event) (contextIn (st .args .desks) (st .args .n) (st .args .c) d) (st .args .c) .sends)) (c .before .before .before .before .before .before .holder-place .ensures) in
+    let e = same-records (st .args .desks) (st .args .c .code) _ _ h in
+    (c .before .before .put .ensures .0 ∙ ap (λ (l : List ℕ). st .args .at + length l) e, c .before .before .put .ensures .1 ∙ ap (λ (l : List ℕ). written (now (st .args .buffer)) (st .args .at) l) e)
+
+pub put-in-spec : {M : Type 1} → statement M
+put-in-spec =
+    tie.close
+    (tie.spec
+    sends-any-requires
+    returns
+    holder-place-requires
+    moved-requires
+    put-requires
+    same-length
+    returns-2)

@@ -1,0 +1,21 @@
+-- `line_set::all::rests` meets its contract, case by case.
+-- Assumes nothing.
+use mathlib.Core.Path.{refl}
+use borrow.Author.Needs.{needs}
+use Rattle.line_set.proofs.all.rests.Statement.{statement}
+use Rattle.line_set.proofs.all.rests.Tie as tie
+
+enum-told : tie.Need-enum-told
+enum-told c = search needs
+
+enum-told-2 : tie.Need-enum-told-2
+enum-told-2 c = search needs
+
+returns : tie.Need-returns
+returns c = rw (c .before .enum-told .given .1) refl
+
+returns-2 : tie.Need-returns-2
+returns-2 c = rw (c .enum-told2 .given .1) refl
+
+pub rests-spec : {M : Type 1} → statement M
+rests-spec = tie.close (tie.spec enum-told enum-told-2 returns returns-2)

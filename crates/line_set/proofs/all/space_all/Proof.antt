@@ -1,0 +1,86 @@
+-- `line_set::all::space_all` meets its contract: the space of the channels passed is counted.
+-- Assumes nothing.
+use Prim.Native.Nat.{_-_, _≤_, _<_}
+use mathlib.Core.Path.{_≡_, sym, ap, _∙_}
+use native.Mathlib.Omega.{arith}
+use lib.ListN.{length, set, length-map}
+use Rattle.channel.specs.declared.state.Channel.{Channel}
+use Rattle.set_rules.specs.State.{noChannel, channelsOf}
+use borrow.Author.Needs.{needs}
+use Rattle.line_set.proofs.Places.{count-is, at-taken}
+use Rattle.set_rules.specs.Records.{delivered, spaceOf}
+use Rattle.line_set.specs.Steps.{sendsIn}
+use Rattle.line_set.proofs.Turns.{Summed, sum-first, sum-next, sum-last, sends-from}
+use Rattle.line_set.proofs.all.space_all.Statement.{statement}
+use Rattle.line_set.proofs.all.space_all.Tie as tie
+
+abbrev Inv-loop : tie.InvT-loop
+Inv-loop event set desks n end sum₀ i₀ sum i = Summed (set .desks) (set .size .desks) event (channelsOf set) i sum × (i ≤ end)
+
+abbrev μ-loop : tie.MeasureT-loop
+μ-loop event set desks n end sum₀ i₀ sum i = end - i
+
+count-of-requires : tie.Need-count-of-requires Inv-loop μ-loop
+count-of-requires c κs = search needs
+
+loop-holds : tie.Need-loop-holds Inv-loop μ-loop
+loop-holds c = (sum-first _ _ _ _, omega arith)
+
+mul-c : tie.Need-mul-c Inv-loop μ-loop
+mul-c c = search needs
+
+element-copy-out-c : tie.Need-element-copy-out-c Inv-loop μ-loop
+element-copy-out-c c = search needs
+
+space-in-requires : tie.Need-space-in-requires Inv-loop μ-loop
+space-in-requires c κs = search needs
+
+add-sum : tie.Need-add-sum Inv-loop μ-loop
+add-sum c = omega (arith, c .before .before .before .loop .inv .0 .bound, c .space-in .ensures .1, c .before .before .before .before .count-of .ensures .1, c .before .before .loop-test .taken)
+
+add-i : tie.Need-add-i Inv-loop μ-loop
+add-i c = search needs
+
+loop-less : tie.Need-loop-less Inv-loop μ-loop
+loop-less c = search needs
+
+loop-again : tie.Need-loop-again Inv-loop μ-loop
+loop-again c =
+    let st = c .before .before .before .before .before .before in
+    let s = st .args .t1 in
+    let l = c .before .before .before .loop in
+    let n : length (s .channels) ≡ 32 = sym (length-map (s .channels) _) ∙ (st .good .0 .1 .1 .0 .1 .0 .1) in
+    let e = c .before .before .before .before .count-of .ensures .0 ∙ count-is (s .channels) (s .size .channels) n in
+    let h : l .i < length (channelsOf s) = omega (arith, e, c .before .before .loop-test .taken) in
+    let g = at-taken (s .channels) (s .size .channels) (l .i) noChannel _ h in (
+      sum-next (s .desks) (s .size .desks) (st .args .event) (channelsOf s) (l .i) noChannel (l .sum) _ h
+          (c .space-in .ensures .0 ∙ ap (λ (x : Channel). spaceOf (delivered (x .code) (sendsIn (s .desks) (s .size .desks) (st .args .event) x))) (sym g)) (c .space-in .ensures .1) (l .inv .0),
+      omega arith,
+    )
+
+returns : tie.Need-returns Inv-loop μ-loop
+returns c =
+    let st = c .before .before .before .before in
+    let s = st .args .t1 in
+    let l = c .before .loop in
+    let n : length (s .channels) ≡ 32 = sym (length-map (s .channels) _) ∙ (st .good .0 .1 .1 .0 .1 .0 .1) in
+    let e = c .before .before .count-of .ensures .0 ∙ count-is (s .channels) (s .size .channels) n in
+    sum-last (s .desks) (s .size .desks) (st .args .event) (channelsOf s) (l .i) (l .sum) (omega (arith, e, c .loop-test .left)) (l .inv .0)
+    ∙ ap spaceOf (sends-from s (st .args .event) (channelsOf s))
+
+pub space-all-spec : {M : Type 1} → statement M
+space-all-spec =
+    tie.close
+    (tie.spec
+    Inv-loop
+    μ-loop
+    count-of-requires
+    loop-holds
+    mul-c
+    element-copy-out-c
+    space-in-requires
+    add-sum
+    add-i
+    loop-less
+    loop-again
+    returns)

@@ -1,0 +1,51 @@
+-- `line_set::all::space_in` meets its contract: a channel at rest takes no space.
+-- Assumes nothing.
+use Prim.Native.Nat.{ℕ}
+use mathlib.Core.Path.{refl, sym, ap, _∙_}
+use native.Mathlib.Omega.{arith}
+use borrow.Author.Tests.{not-true}
+use Rattle.channel.specs.Rules.{holderPlace, happens}
+use Rattle.channel.specs.Scripts.{heard}
+use Rattle.set_rules.specs.Records.{delivered, spaceOf}
+use Rattle.line_set.specs.Steps.{contextIn, sendsIn}
+use Rattle.line_set.proofs.Emission.{same-space, nothing-sent}
+use borrow.Author.Needs.{needs}
+use Rattle.line_set.proofs.all.space_in.Statement.{statement}
+use Rattle.line_set.proofs.all.space_in.Tie as tie
+
+sends-any-requires : tie.Need-sends-any-requires
+sends-any-requires c κs = search needs
+
+returns : tie.Need-returns
+unfolding spaceOf delivered
+returns c =
+    let st = c .before .before in
+    let x = contextIn (st .args .desks) (st .args .n) (st .args .c) (holderPlace (st .args .c .holder)) in
+    (rw (nothing-sent (sendsIn (st .args .desks) (st .args .n) (st .args .event) (st .args .c)) (sym (c .before .sends-any .ensures x) ∙ not-true _ (c .if1 .taken))) refl, omega arith)
+
+holder-place-requires : tie.Need-holder-place-requires
+holder-place-requires c κs = search needs
+
+moved-requires : tie.Need-moved-requires
+moved-requires c κs = search needs
+
+space-requires : tie.Need-space-requires
+space-requires c κs = search needs
+
+returns-2 : tie.Need-returns-2
+returns-2 c =
+    let st = c .before .before .before .before .before .before in
+    let ch = st .args .c .code in
+    let h = c .before .before .moved .ensures .1 ∙ ap (λ (d : ℕ). heard (happens (st .args .event) (contextIn (st .args .desks) (st .args .n) (st .args .c) d) (st .args .c) .sends)) (c .before .before .before .holder-place .ensures) in
+    (c .space .ensures .0 ch ∙ same-space ch _ _ h, c .space .ensures .1)
+
+pub space-in-spec : {M : Type 1} → statement M
+space-in-spec =
+    tie.close
+    (tie.spec
+    sends-any-requires
+    returns
+    holder-place-requires
+    moved-requires
+    space-requires
+    returns-2)

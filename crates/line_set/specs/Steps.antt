@@ -1,0 +1,84 @@
+-- One entry as the code takes it, kind by kind. `proofs/ByKind.antt` shows that together they are `stepOf`.
+use Prim.Native.Nat.{ℕ}
+use mathlib.Core.List.{List, [], _∷_, _++_}
+use mathlib.Core.Bool.{Bool, false, cond}
+use mathlib.Core.Path.{_≡_}
+use lib.Dec.{eqb}
+use lib.ListN.{take, getD, set}
+use Rattle.telegram.specs.Telegram.{over}
+use Rattle.channel.specs.Rules.{Context, isHeld, holderPlace, happens}
+use Rattle.channel.specs.declared.state.Channel.{Channel}
+use Rattle.channel.specs.declared.state.Send.{Send}
+use Rattle.channel.specs.declared.state.Event.{Event}
+use Rattle.channel.specs.declared.state.Event.the-variants.{Capture, Release, Cut, PressOn, PressOff, MobileOn, MobileOff}
+use Rattle.set_rules.specs.State.{noDesk, runningFrom, deskAt, hasDesk, hasChannel, channelAt, withChannels}
+use Rattle.set_rules.specs.declared.state.Desk.{Desk}
+use Rattle.set_rules.specs.Plan.{planOk}
+use Rattle.set_rules.specs.Records.{Delivery, delivered}
+use Rattle.set_rules.specs.SetRules.{Effect, effect, contextOf, numberIn, byHolder, onChannel, timeTaken, answerTaken, onPlan}
+use Rattle.set_rules.specs.Feeds.{Outcome, answerOf, refuse, emit}
+use Rattle.set_rules.specs.declared.state.Entry.{Entry}
+use Rattle.set_rules.specs.declared.state.LineSet.{LineSet}
+use Rattle.set_rules.specs.declared.state.Answer.{Answer}
+use Rattle.line_set.specs.Judging.{lineRefusal, requestRefusal}
+use Rattle.line_set.specs.declared.request.Request.{Request}
+
+-- an answer and a buffer after, as an outcome gives them
+pub record Gives (o : Outcome) (r : Answer) (before after : List ℕ) : Type 0 where
+  pub answer : r ≡ answerOf o
+  pub bytes : after ≡ over (o .bytes) before
+
+-- an effect, if there is no refusal
+unfoldable pub judged : LineSet → ℕ → Effect → ℕ → Outcome
+judged s n f room = cond (eqb n 0) (emit s f room) (refuse n s)
+
+-- the context of a rule, by the desks and how many of them the plan has; d holds the channel or asks for it
+abbrev pub contextIn : List Desk → ℕ → Channel → ℕ → Context
+contextIn ds n c d = record { listeners = runningFrom 0 (c .entitled) (take n ds); own = getD ds d noDesk .number }
+
+-- what an event sends, its channel's holder being the context's desk
+abbrev pub sendsIn : List Desk → ℕ → Event → Channel → List Send
+sendsIn ds n v c = happens v (contextIn ds n c (holderPlace (c .holder))) c .sends
+
+-- no timer runs
+abbrev pub restsIn : Channel → Bool
+restsIn c = cond (isHeld (c .holder)) false (eqb (c .quiet) 0)
+
+-- what an event on these channels sends
+unfoldable pub sendsFrom : List Desk → ℕ → Event → List Channel → List Delivery
+sendsFrom ds n v [] = []
+sendsFrom ds n v (c ∷ cs) = delivered (c .code) (sendsIn ds n v c) ++ sendsFrom ds n v cs
+
+-- an event on a channel that was found at a place
+unfoldable pub effectAt : LineSet → ℕ → Channel → ℕ → Event → Effect
+effectAt s place c d v =
+    effect s
+    (withChannels (set (s .channels) place (happens v (contextOf s c d) c .next)) s)
+    (delivered (c .code) (happens v (contextOf s c d) c .sends))
+
+-- what an entry that is no telegram makes happen on its channel
+abbrev pub eventOf : Entry → Event
+eventOf x =
+    cond (eqb (x .kind) 2) (cond (eqb (x .on) 1) PressOn PressOff)
+    (cond (eqb (x .kind) 3) Cut
+    (cond (eqb (x .kind) 4) (MobileOn (x .base) (numberIn (x .number)))
+    MobileOff))
+
+unfoldable pub lineOutcome : LineSet → Entry → ℕ → Outcome
+lineOutcome s x room = judged s (lineRefusal s x) (byHolder s (x .channel) (eventOf x)) room
+
+-- what a desk's request does
+abbrev pub requestEffect : LineSet → ℕ → Request → Effect
+requestEffect s d q =
+    cond (eqb (q .identifier) 550411) (timeTaken s d)
+    (cond (eqb (q .identifier) 550421) (answerTaken s d (q .flag))
+    (onChannel s (q .channel) d (cond (eqb (q .flag) 1) (Capture d) (Release d))))
+
+unfoldable pub requestOutcome : LineSet → ℕ → Request → ℕ → Outcome
+requestOutcome s d q room =
+    cond (hasDesk s d)
+    (judged s (requestRefusal q d (deskAt s d) (hasChannel s (q .channel)) (channelAt s (q .channel))) (requestEffect s d q) room)
+    (refuse 7 s)
+
+unfoldable pub planOutcome : LineSet → List ℕ → ℕ → Outcome
+planOutcome s p room = cond (s .planned) (refuse 5 s) (cond (planOk p) (emit s (onPlan p) room) (refuse 6 s))
