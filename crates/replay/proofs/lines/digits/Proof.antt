@@ -1,0 +1,34 @@
+-- `replay::lines::digits` meets its contract: it counts to 20.
+-- Assumes nothing.
+use borrow.Author.Needs.{needs}
+use Prim.Native.Nat.{_≤_, _-_}
+use Rattle.replay.proofs.lines.digits.Statement.{statement}
+use Rattle.replay.proofs.lines.digits.Tie as tie
+
+abbrev Inv-loop : tie.InvT-loop
+Inv-loop number rest₀ n₀ rest n = n ≤ 20
+
+abbrev μ-loop : tie.MeasureT-loop
+μ-loop number rest₀ n₀ rest n = 20 - n
+
+loop-holds : tie.Need-loop-holds Inv-loop μ-loop
+loop-holds c = search needs
+
+add-n : tie.Need-add-n Inv-loop μ-loop
+add-n c = search needs
+
+loop-less : tie.Need-loop-less Inv-loop μ-loop
+loop-less c = search needs
+
+loop-again : tie.Need-loop-again Inv-loop μ-loop
+loop-again c = search needs
+
+returns : tie.Need-returns Inv-loop μ-loop
+returns c = search needs
+
+returns-2 : tie.Need-returns-2 Inv-loop μ-loop
+returns-2 c = search needs
+
+pub digits-spec : {M : Type 1} → statement M
+digits-spec =
+    tie.close (tie.spec Inv-loop μ-loop loop-holds add-n loop-less loop-again returns returns-2)

@@ -1,0 +1,58 @@
+-- `replay::move_to_front` is safe: it reads and writes before `to`.
+-- Assumes nothing.
+use borrow.Author.Needs.{needs}
+use Prim.Native.Nat.{_≤_, _-_}
+use mathlib.Core.Path.{_≡_, refl}
+use native.Mathlib.Omega.{arith}
+use lib.ListN.{length, length-set}
+use Rattle.replay.proofs.move_to_front.Statement.{statement}
+use Rattle.replay.proofs.move_to_front.Tie as tie
+
+abbrev Inv-loop : tie.InvT-loop
+Inv-loop input₀ from to i₀ input i = (from ≤ i) × (length input ≡ length input₀)
+
+abbrev μ-loop : tie.MeasureT-loop
+μ-loop input₀ from to i₀ input i = to - i
+
+loop-holds : tie.Need-loop-holds Inv-loop μ-loop
+loop-holds c = (omega arith, refl)
+
+slice-read-input : tie.Need-slice-read-input Inv-loop μ-loop
+slice-read-input c = omega arith
+
+sub-input : tie.Need-sub-input Inv-loop μ-loop
+sub-input c = search needs
+
+slice-write-input : tie.Need-slice-write-input Inv-loop μ-loop
+slice-write-input c = omega arith
+
+add-i : tie.Need-add-i Inv-loop μ-loop
+add-i c = search needs
+
+loop-less : tie.Need-loop-less Inv-loop μ-loop
+loop-less c = omega arith
+
+loop-again : tie.Need-loop-again Inv-loop μ-loop
+loop-again c = (omega arith, simp length-set (c .before .before .loop .inv .1))
+
+same-length : tie.Need-same-length Inv-loop μ-loop
+same-length c = c .before .loop .inv .1
+
+returns : tie.Need-returns Inv-loop μ-loop
+returns c = search needs
+
+pub move-to-front-spec : {M : Type 1} → statement M
+move-to-front-spec =
+    tie.close
+    (tie.spec
+    Inv-loop
+    μ-loop
+    loop-holds
+    slice-read-input
+    sub-input
+    slice-write-input
+    add-i
+    loop-less
+    loop-again
+    same-length
+    returns)
