@@ -15,7 +15,8 @@ pub fn answer_all(mut input: impl Read, mut output: impl Write) -> io::Result<()
 /// The line for one telegram: 0 and the telegram as the writer writes what
 /// was read, or the refusal number.
 pub fn answer(bytes: &[u8]) -> String {
-    let written = telegram::read(bytes).and_then(|(code, message)| telegram::write(code, &message));
+    let written =
+        telegram::read(bytes).and_then(|(code, message)| telegram::written(code, &message));
     match written {
         Ok(written) => format!("0 {}", String::from_utf8_lossy(&written)),
         Err(refusal) => refusal.number().to_string(),

@@ -2,17 +2,25 @@
 //! another program's answers.
 
 mod child;
+mod commands;
+mod compare_replay;
 mod compare_telegrams;
+mod coverage;
+mod feed;
 mod frames;
+mod generate;
 mod random;
+mod refusal;
+mod replay;
 mod samples;
+mod session;
+mod set;
 mod telegram;
 mod telegram_groups;
+mod timing;
 
-use std::ffi::{OsStr, OsString};
-use std::io::{self, BufReader, BufWriter};
+use std::ffi::OsString;
 use std::process::ExitCode;
-use std::str::FromStr;
 
 const USAGE: &str = "usage:
   independent telegrams
@@ -20,67 +28,36 @@ const USAGE: &str = "usage:
   independent compare-telegrams PROGRAM [--seed N] [--count N]
       compares PROGRAM's answers with its own; the seed is that of the random
       telegrams (1023 if not given), the count how many of them each random
-      group has (40000 if not given, 1000 or more)";
-
-/// Fewer random telegrams could miss answers that their group must see.
-const LOWEST_COUNT: usize = 1000;
+      group has (40000 if not given, 1000 or more)
+  independent replay
+      steps a set through the entries from standard input and prints what it
+      answers and sends
+  independent compare-replay PROGRAM [--seed N] [--feeds N] [--entries N]
+                             [--long N] [--named DIR]..
+      compares PROGRAM's output with that of replay: on the text feeds in
+      each DIR (tests/feeds and samples if none is given), on feeds that break
+      off, on generated ones (1000 of 500 entries, from the seeds 1023 on; the
+      seed 'random' is taken from the clock) and on a long one (1000000)
+  independent feed to-binary | to-text | show
+      turns a text feed from standard input into bytes, bytes into text, or
+      bytes into text with the entries' numbers
+  independent generate SEED N [--shape NAME]
+      writes a feed of N entries; as a load to measure if a shape is named:
+      mixed4, mixed32, ticks-rest, ticks-held, telegrams, refused
+  independent time FEED ROUNDS
+      measures the steps of a feed in nanoseconds an entry";
 
 fn main() -> ExitCode {
     let arguments: Vec<OsString> = std::env::args_os().skip(1).collect();
-    let done = match arguments.split_first() {
-        Some((command, [])) if command == "telegrams" => telegrams(),
-        Some((command, rest)) if command == "compare-telegrams" => compare_telegrams(rest),
-        _ => return usage(),
-    };
-    match done {
-        Ok(status) => status,
+    match commands::run(&arguments) {
+        Ok(Some(status)) => status,
+        Ok(None) => {
+            eprintln!("{USAGE}");
+            ExitCode::from(2)
+        }
         Err(error) => {
             eprintln!("independent: {error}");
             ExitCode::FAILURE
         }
     }
-}
-
-fn usage() -> ExitCode {
-    eprintln!("{USAGE}");
-    ExitCode::from(2)
-}
-
-fn telegrams() -> io::Result<ExitCode> {
-    let input = BufReader::new(io::stdin().lock());
-    let output = BufWriter::new(io::stdout().lock());
-    frames::answer_all(input, output)?;
-    Ok(ExitCode::SUCCESS)
-}
-
-fn compare_telegrams(arguments: &[OsString]) -> io::Result<ExitCode> {
-    let Some((program, options)) = arguments.split_first() else {
-        return Ok(usage());
-    };
-    let Some((seed, count)) = seed_and_count(options) else {
-        return Ok(usage());
-    };
-    let mut output = BufWriter::new(io::stdout().lock());
-    let passed = compare_telegrams::run(program, seed, count, &mut output)?;
-    Ok(if passed {
-        ExitCode::SUCCESS
-    } else {
-        ExitCode::FAILURE
-    })
-}
-
-fn seed_and_count(options: &[OsString]) -> Option<(u64, usize)> {
-    let (mut seed, mut count) = (1023, 40_000);
-    for option in options.chunks(2) {
-        match option {
-            [name, value] if name == "--seed" => seed = number(value)?,
-            [name, value] if name == "--count" => count = number(value)?,
-            _ => return None,
-        }
-    }
-    (count >= LOWEST_COUNT).then_some((seed, count))
-}
-
-fn number<T: FromStr>(text: &OsStr) -> Option<T> {
-    text.to_str()?.parse().ok()
 }

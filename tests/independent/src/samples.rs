@@ -207,7 +207,7 @@ fn random_number(random: &mut Random) -> String {
     }
 }
 
-fn random_date_time(random: &mut Random) -> String {
+pub fn random_date_time(random: &mut Random) -> String {
     let (year, month) = (random.within(2000, 2099), random.within(1, 12));
     let day = random.within(1, last_day(year, month));
     let (hour, minute) = (random.within(0, 23), random.within(0, 59));

@@ -1,0 +1,22 @@
+//! Feeds as text, one entry a line, and as the bytes that a set takes.
+//!
+//! ```text
+//! plan 12:00120001 13:00130001 / 7:0,1 9:0    desks code:number / channels code:entitled desks
+//! telegram 0 DV0018001255042101               desk, telegram
+//! press 0 7 on                                desk, channel, on or off
+//! cut 0 7                                     desk, channel
+//! mobile-on 7 3 00990007                      channel, base, number
+//! mobile-off 7                                channel
+//! tick 130                                    so many ticks; one without a count
+//! handover
+//! raw 00021a                                  any bytes, in hex, the length included
+//! # a comment
+//! ```
+
+mod parse;
+mod print;
+#[cfg(test)]
+mod tests;
+
+pub use parse::to_binary;
+pub use print::{show, to_text};

@@ -1,0 +1,187 @@
+//! From text to bytes.
+
+use crate::set::entry::{Entry, LONGEST};
+
+/// More would only be a slip of the pen.
+pub const MOST_TICKS: usize = 1_000_000;
+
+type Parsed<T> = Result<T, String>;
+
+/// The bytes of a text feed, or the line that is wrong and why.
+pub fn to_binary(text: &[u8]) -> Parsed<Vec<u8>> {
+    let mut feed = Vec::new();
+    for (place, line) in text.split(|&byte| byte == b'\n').enumerate() {
+        push_line(line, &mut feed).map_err(|why| format!("line {}: {why}", place + 1))?;
+    }
+    Ok(feed)
+}
+
+/// Puts the entries of one line behind the feed.
+pub fn push_line(line: &[u8], feed: &mut Vec<u8>) -> Parsed<()> {
+    let line = std::str::from_utf8(line).map_err(|_| "this is not text")?;
+    let words = line.split_ascii_whitespace();
+    let words: Vec<&str> = words.take_while(|word| !word.starts_with('#')).collect();
+    let Some((&name, words)) = words.split_first() else {
+        return Ok(());
+    };
+    match name {
+        "plan" => push_plan(words, feed),
+        "raw" => push_raw(words, feed),
+        "tick" => push_ticks(words, feed),
+        _ => {
+            parse_entry(name, words)?.push(feed);
+            Ok(())
+        }
+    }
+}
+
+/// The entries that are a few words each.
+fn parse_entry<'a>(name: &str, words: &[&'a str]) -> Parsed<Entry<'a>> {
+    Ok(match (name, words) {
+        ("telegram", &[desk, telegram]) => Entry::Telegram {
+            desk: byte("desk", desk)?,
+            telegram: parse_telegram(telegram)?,
+        },
+        ("press", &[desk, channel, on]) => Entry::Press {
+            desk: byte("desk", desk)?,
+            channel: byte("channel", channel)?,
+            on: parse_on(on)?,
+        },
+        ("cut", &[desk, channel]) => Entry::Cut {
+            desk: byte("desk", desk)?,
+            channel: byte("channel", channel)?,
+        },
+        ("mobile-on", &[channel, base, number]) => Entry::MobileOn {
+            channel: byte("channel", channel)?,
+            base: byte("base", base)?,
+            number: parse_number(number)?,
+        },
+        ("mobile-off", &[channel]) => Entry::MobileOff {
+            channel: byte("channel", channel)?,
+        },
+        ("handover", []) => Entry::Handover,
+        _ => return Err(wanted(name)),
+    })
+}
+
+/// What should have followed the first word.
+fn wanted(name: &str) -> String {
+    let form = match name {
+        "telegram" => "telegram DESK TELEGRAM",
+        "press" => "press DESK CHANNEL on, or off",
+        "cut" => "cut DESK CHANNEL",
+        "mobile-on" => "mobile-on CHANNEL BASE NUMBER",
+        "mobile-off" => "mobile-off CHANNEL",
+        "handover" => "handover",
+        _ => return format!("there is no entry '{name}'"),
+    };
+    format!("'{name}' is written: {form}")
+}
+
+fn push_ticks(words: &[&str], feed: &mut Vec<u8>) -> Parsed<()> {
+    let count = match *words {
+        [] => 1,
+        [count] => decimal(count)
+            .filter(|count| (1..=MOST_TICKS).contains(count))
+            .ok_or_else(|| format!("'{count}' is not a count of ticks, 1 to {MOST_TICKS}"))?,
+        _ => return Err("'tick' is written: tick, or tick COUNT".to_string()),
+    };
+    for _ in 0..count {
+        Entry::Tick.push(feed);
+    }
+    Ok(())
+}
+
+fn push_raw(words: &[&str], feed: &mut Vec<u8>) -> Parsed<()> {
+    let &[hex] = words else {
+        return Err("'raw' is written: raw HEX".to_string());
+    };
+    let nibble = |digit: u8| {
+        let value = char::from(digit).to_digit(16);
+        value.ok_or_else(|| format!("'{}' is not a hex digit", char::from(digit)))
+    };
+    if hex.len() % 2 == 1 {
+        return Err("a hex digit is missing: each byte is two of them".to_string());
+    }
+    for pair in hex.as_bytes().chunks_exact(2) {
+        feed.push((nibble(pair[0])? << 4 | nibble(pair[1])?) as u8);
+    }
+    Ok(())
+}
+
+fn push_plan(words: &[&str], feed: &mut Vec<u8>) -> Parsed<()> {
+    let form = "'plan' is written: plan CODE:NUMBER .. / CHANNEL:DESK,DESK ..";
+    let slash = words.iter().position(|&word| word == "/").ok_or(form)?;
+    let (desks, channels) = (&words[..slash], &words[slash + 1..]);
+    let mut plan = vec![count("desks", desks)?];
+    for desk in desks {
+        let (code, number) = desk.split_once(':').ok_or(form)?;
+        let code: u16 = decimal(code)
+            .and_then(|code| code.try_into().ok())
+            .ok_or_else(|| format!("'{code}' is not a code, 0 to 65535"))?;
+        plan.extend_from_slice(&code.to_be_bytes());
+        plan.extend_from_slice(&parse_number(number)?);
+    }
+    plan.push(count("channels", channels)?);
+    for channel in channels {
+        let (code, entitled) = channel.split_once(':').ok_or(form)?;
+        plan.extend_from_slice(&[byte("channel", code)?, parse_mask(entitled)?]);
+    }
+    Entry::Plan(&plan).push(feed);
+    Ok(())
+}
+
+fn count(what: &str, words: &[&str]) -> Parsed<u8> {
+    u8::try_from(words.len()).map_err(|_| format!("there are more than 255 {what}"))
+}
+
+fn parse_mask(desks: &str) -> Parsed<u8> {
+    let mut mask = 0;
+    for desk in desks.split(',').filter(|_| !desks.is_empty()) {
+        let bit = decimal(desk).filter(|&bit| bit < 8);
+        mask |= 1 << bit.ok_or_else(|| format!("'{desk}' is not a desk, 0 to 7"))?;
+    }
+    Ok(mask)
+}
+
+fn parse_telegram(telegram: &str) -> Parsed<&[u8]> {
+    let telegram = printable(telegram)?;
+    if telegram.len() > LONGEST {
+        return Err(format!("the telegram has more than {LONGEST} bytes"));
+    }
+    Ok(telegram)
+}
+
+fn parse_number(number: &str) -> Parsed<[u8; 8]> {
+    let bytes = printable(number)?;
+    let wrong = |_| format!("'{number}' is not a number of 8 characters");
+    bytes.try_into().map_err(wrong)
+}
+
+fn parse_on(on: &str) -> Parsed<bool> {
+    match on {
+        "on" => Ok(true),
+        "off" => Ok(false),
+        _ => Err(format!("'{on}' is neither on nor off")),
+    }
+}
+
+fn printable(word: &str) -> Parsed<&[u8]> {
+    if word.bytes().all(|byte| byte.is_ascii_graphic()) {
+        Ok(word.as_bytes())
+    } else {
+        Err(format!("'{word}' is not ASCII"))
+    }
+}
+
+fn byte(what: &str, word: &str) -> Parsed<u8> {
+    decimal(word)
+        .and_then(|value| value.try_into().ok())
+        .ok_or_else(|| format!("'{word}' is not a {what}, 0 to 255"))
+}
+
+/// Digits only: the library's parser would take a sign too.
+fn decimal(word: &str) -> Option<usize> {
+    let digits = word.bytes().all(|byte| byte.is_ascii_digit());
+    digits.then(|| word.parse().ok()).flatten()
+}

@@ -1,0 +1,121 @@
+//! From bytes to text.
+
+use super::parse;
+use crate::set::entry::{self, Entry};
+use std::io::{self, Write};
+
+/// Writes a feed as text from which the same bytes come back.
+pub fn to_text(feed: &[u8], out: &mut impl Write) -> io::Result<()> {
+    for line in lines(feed) {
+        writeln!(out, "{}", line.text)?;
+    }
+    Ok(())
+}
+
+/// Writes a feed as text with the numbers of the entries in front.
+pub fn show(feed: &[u8], out: &mut impl Write) -> io::Result<()> {
+    for Line { first, last, text } in lines(feed) {
+        if first == last {
+            writeln!(out, "{first}  {text}")?;
+        } else {
+            writeln!(out, "{first}..{last}  {text}")?;
+        }
+    }
+    Ok(())
+}
+
+/// A line and the numbers of the entries that it stands for.
+struct Line {
+    first: usize,
+    last: usize,
+    text: String,
+}
+
+/// One line an entry, but only one for a run of ticks.
+fn lines(feed: &[u8]) -> impl Iterator<Item = Line> + '_ {
+    let (mut rest, mut last) = (feed, 0);
+    std::iter::from_fn(move || {
+        let first = last + 1;
+        let ticks = take_ticks(&mut rest);
+        if ticks > 0 {
+            last += ticks;
+            let text = match ticks {
+                1 => "tick".to_string(),
+                _ => format!("tick {ticks}"),
+            };
+            return Some(Line { first, last, text });
+        }
+        let (bytes, behind) = entry::split_first(rest)?;
+        rest = behind;
+        last += 1;
+        let text = line(bytes);
+        Some(Line { first, last, text })
+    })
+}
+
+/// Takes the ticks in front, and tells how many they are.
+fn take_ticks(rest: &mut &[u8]) -> usize {
+    let tick = Entry::Tick.bytes();
+    let mut count = 0;
+    while count < parse::MOST_TICKS {
+        let Some(behind) = rest.strip_prefix(&tick[..]) else {
+            break;
+        };
+        *rest = behind;
+        count += 1;
+    }
+    count
+}
+
+/// The line that gives these bytes, in words if there are any for them.
+pub fn line(bytes: &[u8]) -> String {
+    let text = entry::read_loosely(bytes).and_then(|entry| in_words(&entry));
+    text.filter(|text| {
+        let mut again = Vec::new();
+        parse::push_line(text.as_bytes(), &mut again).is_ok() && again == bytes
+    })
+    .unwrap_or_else(|| format!("raw {}", hex(bytes)))
+}
+
+/// May give text that says something else if there are odd characters.
+fn in_words(entry: &Entry) -> Option<String> {
+    let ascii = |bytes: &[u8]| String::from_utf8_lossy(bytes).into_owned();
+    Some(match *entry {
+        Entry::Telegram { desk, telegram } => format!("telegram {desk} {}", ascii(telegram)),
+        Entry::Press { desk, channel, on } => {
+            format!("press {desk} {channel} {}", if on { "on" } else { "off" })
+        }
+        Entry::Cut { desk, channel } => format!("cut {desk} {channel}"),
+        Entry::MobileOn {
+            channel,
+            base,
+            ref number,
+        } => format!("mobile-on {channel} {base} {}", ascii(number)),
+        Entry::MobileOff { channel } => format!("mobile-off {channel}"),
+        Entry::Tick => "tick".to_string(),
+        Entry::Plan(plan) => plan_in_words(plan)?,
+        Entry::Handover => "handover".to_string(),
+    })
+}
+
+fn plan_in_words(plan: &[u8]) -> Option<String> {
+    let (&desk_count, rest) = plan.split_first()?;
+    let (desks, rest) = rest.split_at_checked(usize::from(desk_count) * 10)?;
+    let (_, channels) = rest.split_first()?;
+    let mut text = "plan".to_string();
+    for desk in desks.chunks_exact(10) {
+        let code = u16::from_be_bytes([desk[0], desk[1]]);
+        text += &format!(" {code}:{}", String::from_utf8_lossy(&desk[2..]));
+    }
+    text += " /";
+    for channel in channels.chunks_exact(2) {
+        let entitled = (0..8).filter(|desk| channel[1] >> desk & 1 == 1);
+        let entitled: Vec<String> = entitled.map(|desk: u8| desk.to_string()).collect();
+        text += &format!(" {}:{}", channel[0], entitled.join(","));
+    }
+    Some(text)
+}
+
+fn hex(bytes: &[u8]) -> String {
+    bytes.iter().map(|byte| format!("{byte:02x}")).collect()
+}

@@ -1,0 +1,164 @@
+//! Both directions, and the messages for text that is wrong.
+
+use super::*;
+use crate::generate;
+use crate::random::Random;
+
+fn text_of(feed: &[u8]) -> String {
+    let mut text = Vec::new();
+    to_text(feed, &mut text).unwrap();
+    String::from_utf8(text).unwrap()
+}
+
+/// Back to the same bytes.
+fn round_trip(feed: &[u8]) {
+    let text = text_of(feed);
+    assert_eq!(to_binary(text.as_bytes()).unwrap(), feed, "{text}");
+}
+
+#[test]
+fn every_form() {
+    let text = "\
+plan 12:00120001 13:00130001 / 7:0,1 9:0
+telegram 0 DV002900125506000078001200011
+press 0 7 on
+press 0 7 off
+cut 0 7
+mobile-on 7 3 00990007
+mobile-off 7
+tick
+handover
+tick 130
+raw 00021a06
+raw 0002
+";
+    let feed = to_binary(text.as_bytes()).unwrap();
+    assert_eq!(text_of(&feed), text);
+    let plan = b"\0\x1c\x01\x07\x02\0\x0c00120001\0\x0d00130001\x02\x07\x03\x09\x01";
+    assert!(feed.starts_with(plan));
+    let press = b"\0\x05\x01\x02\0\x07\x01";
+    assert!(feed.windows(press.len()).any(|bytes| bytes == press));
+}
+
+#[test]
+fn comments_and_blank_lines() {
+    let feed = to_binary(b"# nothing\n\n  tick  # one\n\ttick 2\r\n").unwrap();
+    assert_eq!(feed, b"\0\x02\x01\x06".repeat(3));
+    assert_eq!(to_binary(b"").unwrap(), b"");
+}
+
+#[test]
+fn bad_plans_have_words_too() {
+    for text in ["plan /", "plan 65535:x/:,#### / 255:", "plan / 7:0,7 7:0"] {
+        let feed = to_binary(text.as_bytes()).unwrap();
+        assert_eq!(text_of(&feed), format!("{text}\n"));
+    }
+}
+
+#[test]
+fn entry_numbers() {
+    let feed = to_binary(b"press 0 7 on\ntick\ntick 12\nhandover\nraw 00").unwrap();
+    let mut shown = Vec::new();
+    show(&feed, &mut shown).unwrap();
+    let shown = String::from_utf8(shown).unwrap();
+    let due = "1  press 0 7 on\n2..14  tick 13\n15  handover\n16  raw 00\n";
+    assert_eq!(shown, due);
+}
+
+#[test]
+fn what_no_words_say_is_raw() {
+    for hex in [
+        "0003010100",
+        "000401010020",
+        "0004010100ff",
+        "000401010023",
+        "0005010200070200",
+        "0003010600",
+        "000201",
+        "0000",
+        "00",
+        "000201070000",
+    ] {
+        let text = format!("raw {hex}");
+        let feed = to_binary(text.as_bytes()).unwrap();
+        assert!(text_of(&feed).starts_with("raw"), "{hex}");
+        round_trip(&feed);
+    }
+}
+
+#[test]
+fn round_trip_of_generated_feeds() {
+    for seed in 0..100 {
+        round_trip(&generate::feed(seed, 200));
+    }
+}
+
+#[test]
+fn round_trip_of_random_bytes() {
+    let mut random = Random::new(7);
+    for _ in 0..20_000 {
+        let size = random.within(0, 40);
+        let mut bytes = random.bytes(size);
+        // Lengths, versions and kinds that are often right.
+        for place in 0..size {
+            match random.below(4) {
+                0 => bytes[place] = 0,
+                1 => bytes[place] = random.within(1, 8) as u8,
+                2 => bytes[place] = random.within(b' '.into(), b'~'.into()) as u8,
+                _ => {}
+            }
+        }
+        round_trip(&bytes);
+    }
+}
+
+#[test]
+fn messages() {
+    for (text, message) in [
+        (
+            "press 0 7",
+            "line 1: 'press' is written: press DESK CHANNEL on, or off",
+        ),
+        ("tick\n\npress 0 7 up", "line 3: 'up' is neither on nor off"),
+        ("cut 0 256", "line 1: '256' is not a channel, 0 to 255"),
+        ("cut -1 2", "line 1: '-1' is not a desk, 0 to 255"),
+        ("jump", "line 1: there is no entry 'jump'"),
+        (
+            "tick 0",
+            "line 1: '0' is not a count of ticks, 1 to 1000000",
+        ),
+        (
+            "tick +1",
+            "line 1: '+1' is not a count of ticks, 1 to 1000000",
+        ),
+        (
+            "raw 0",
+            "line 1: a hex digit is missing: each byte is two of them",
+        ),
+        ("raw 0g", "line 1: 'g' is not a hex digit"),
+        (
+            "mobile-on 7 3 0099007",
+            "line 1: '0099007' is not a number of 8 characters",
+        ),
+        (
+            "plan 1:00000001 7:0",
+            "line 1: 'plan' is written: plan CODE:NUMBER .. / CHANNEL:DESK,DESK ..",
+        ),
+        (
+            "plan 1:00000001 / 7:0,8",
+            "line 1: '8' is not a desk, 0 to 7",
+        ),
+        (
+            "plan 65536:00000001 / 7:0",
+            "line 1: '65536' is not a code, 0 to 65535",
+        ),
+        ("handover now", "line 1: 'handover' is written: handover"),
+        ("telegram 0 D\u{e9}", "line 1: 'D\u{e9}' is not ASCII"),
+    ] {
+        assert_eq!(to_binary(text.as_bytes()).unwrap_err(), message);
+    }
+    assert_eq!(
+        to_binary(b"tick\n\xff").unwrap_err(),
+        "line 2: this is not text"
+    );
+}
