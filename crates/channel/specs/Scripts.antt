@@ -1,17 +1,19 @@
 -- How the code keeps what a rule sends: an array of seven sends in the rule's order, with a send to the empty set where the
 -- rule sends nothing.
-use Prim.Native.Nat.{ℕ}
+use Prim.Native.Nat.{ℕ, _-_}
 use mathlib.Core.List.{List, [], _∷_}
 use mathlib.Core.Bool.{Bool, true, false, cond}
 use mathlib.Core.Path.{_≡_}
-use lib.Dec.{eqb, ltb}
+use lib.Dec.{eqb, leb, ltb}
 use Rattle.telegram.specs.declared.message.Number.{Number}
-use Rattle.channel.specs.Rules.{Context, Step, isHeld, isPresent}
+use Rattle.channel.specs.Rules.{Context, Step, step, isHeld, isPresent, withCall, withQuiet, withHolder, withRelease, endOf, freedSends}
+use Rattle.channel.specs.declared.state.Holder.the-variants.{Nobody}
+use Rattle.channel.specs.declared.state.Call.the-variants.{Closed}
 use Rattle.channel.specs.declared.state.Channel.{Channel}
 use Rattle.channel.specs.declared.state.Moved.{Moved}
 use Rattle.channel.specs.declared.state.Send.{Send}
 use Rattle.channel.specs.declared.state.Falling.{Falling}
-use Rattle.channel.specs.declared.state.Falling.the-variants.{Neither, Quiet, Release}
+use Rattle.channel.specs.declared.state.Falling.the-variants.{Neither, Quiet, Release, Due}
 
 -- what is sent to someone
 unfoldable pub heard : List Send → List Send
@@ -30,8 +32,24 @@ any (s ∷ ss) = true
 abbrev pub Follows : Moved → Step → Type 0
 Follows m st = (m .next ≡ st .next) × (heard (m .sends) ≡ heard (st .sends))
 
--- which timer falls at a tick
+-- what a tick does to the timers
 unfoldable pub falling : Channel → Falling
 falling c =
     cond (c .pressed) Neither
-    (cond (isPresent (c .arrival)) Neither (cond (ltb 0 (c .quiet)) Quiet (cond (isHeld (c .holder)) Release Neither)))
+    (cond (isPresent (c .arrival)) Neither
+    (cond (ltb 0 (c .quiet)) (cond (leb (c .quiet) 1) Due (Quiet (c .quiet - 1)))
+    (cond (isHeld (c .holder)) (cond (leb (c .release) 1) Due (Release (c .release - 1))) Neither)))
+
+-- what a timer does that runs out
+unfoldable pub runOut : Context → Channel → Step
+runOut x c =
+    cond (ltb 0 (c .quiet))
+    (step (withCall Closed (withQuiet 0 c)) (endOf 3 (c .call)))
+    (step (withHolder Nobody (withRelease 0 c)) (freedSends x c))
+
+-- a tick, by what it does to the timers
+abbrev pub tickBy : Falling → Context → Channel → Step
+tickBy Neither x c = step c []
+tickBy (Quiet q) x c = step (withQuiet q c) []
+tickBy (Release r) x c = step (withRelease r c) []
+tickBy Due x c = runOut x c

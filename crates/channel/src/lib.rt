@@ -2,6 +2,7 @@
 mod rules;
 mod state;
 
+pub use rules::falls;
 pub use rules::happens;
 pub use rules::held_by;
 pub use rules::holder_place;
@@ -14,6 +15,7 @@ pub use state::Arrival;
 pub use state::Call;
 pub use state::Channel;
 pub use state::Event;
+pub use state::Falling;
 pub use state::Holder;
 pub use state::Moved;
 pub use state::Notice;

@@ -14,8 +14,8 @@ ghost use mathlib.Core.Path.{_≡_};
 ghost use mathlib.Core.List.{[], _∷_};
 ghost use mathlib.Core.Bool.{cond};
 ghost use Rattle.telegram.specs.Telegram.{num};
-ghost use Rattle.channel.specs.Rules.{Context, quietTime, releaseTime, general, up, only, isIn, step, to, isHeld, heldBy, holderPlace, holderSet, isOpen, isPresent, openedBy, startOf, openingSends, endOf, kindOf, pressNotice, mobileOffSends, mobileRecipients, captured, capture, cut, release, pressOn, pressOff, mobileOn, mobileOff, tickQuiet, tickRelease, tick, handover, happens};
-ghost use Rattle.channel.specs.Scripts.{Follows, heard, context, any, falling};
+ghost use Rattle.channel.specs.Rules.{Context, quietTime, releaseTime, general, up, only, isIn, step, to, isHeld, heldBy, holderPlace, holderSet, isOpen, isPresent, openedBy, startOf, openingSends, endOf, kindOf, pressNotice, mobileOffSends, mobileRecipients, captured, capture, cut, release, pressOn, pressOff, mobileOn, mobileOff, tick, handover, happens};
+ghost use Rattle.channel.specs.Scripts.{Follows, heard, context, any, falling, runOut};
 ghost use Rattle.channel.specs.declared.state.Call.the-variants.{Open};
 ghost use Rattle.channel.specs.declared.state.Notice.the-variants.{PressAnswer, Incoming, BaseArrival, CallerNotice, CaptureReply, CaptureState};
 
@@ -589,8 +589,8 @@ fn mobile_off(channel: Channel) -> Moved
     }
 }
 
-// Which timer falls at a tick. Most channels are at rest, so that is asked first.
-fn falls(channel: Channel) -> Falling
+// What a tick does to the timers. Most channels are at rest, so that is asked first.
+pub fn falls(channel: Channel) -> Falling
     ensures { λ r. ⌜ r ≡ falling channel ⌝ }
 {
     let holder = channel.holder;
@@ -601,47 +601,34 @@ fn falls(channel: Channel) -> Falling
     if channel.pressed | is_present(arrival) {
         return Falling::Neither;
     }
-    if 0 < channel.quiet {
-        Falling::Quiet
-    } else {
-        Falling::Release
+    if 1 < channel.quiet {
+        return Falling::Quiet(channel.quiet - 1);
     }
+    if (channel.quiet == 0) & (1 < channel.release) {
+        return Falling::Release(channel.release - 1);
+    }
+    Falling::Due
 }
 
-// The channel after its quiet timer fell.
-fn quiet_fallen(mut channel: Channel) -> Channel
-    ensures { λ r. ⌜ r ≡ tickQuiet channel .next ⌝ }
+// The channel after a timer ran out: its call is gone, or its holder.
+fn run_out(channel: Channel) -> Channel
+    ensures { λ r. ⌜ ((x : Context) → r ≡ runOut x channel .next) ⌝ }
 {
-    let quiet = channel.quiet;
-    if 1 < quiet {
-        channel.quiet = quiet - 1;
-        return channel;
-    }
-    let holder = channel.holder;
     let arrival = channel.arrival;
-    Channel {
-        code: channel.code,
-        entitled: channel.entitled,
-        holder,
-        pressed: channel.pressed,
-        call: Call::Closed,
-        arrival,
-        quiet: 0,
-        release: channel.release,
-    }
-}
-
-// The channel after its release timer fell.
-fn release_fallen(mut channel: Channel) -> Channel
-    ensures { λ r. ⌜ ((x : Context) → r ≡ tickRelease x channel .next) ⌝ }
-{
-    let release = channel.release;
-    if 1 < release {
-        channel.release = release - 1;
-        return channel;
+    if 0 < channel.quiet {
+        let holder = channel.holder;
+        return Channel {
+            code: channel.code,
+            entitled: channel.entitled,
+            holder,
+            pressed: channel.pressed,
+            call: Call::Closed,
+            arrival,
+            quiet: 0,
+            release: channel.release,
+        };
     }
     let call = channel.call;
-    let arrival = channel.arrival;
     Channel {
         code: channel.code,
         entitled: channel.entitled,
@@ -655,14 +642,34 @@ fn release_fallen(mut channel: Channel) -> Channel
 }
 
 // The channel after a tick.
-pub fn ticked(channel: Channel) -> Channel
+pub fn ticked(mut channel: Channel) -> Channel
     ensures { λ r. ⌜ ((x : Context) → r ≡ tick x channel .next) ⌝ }
 {
     let falling = falls(channel);
     match falling {
         Falling::Neither => channel,
-        Falling::Quiet => quiet_fallen(channel),
-        Falling::Release => release_fallen(channel),
+        Falling::Quiet(left) => {
+            channel.quiet = left;
+            channel
+        }
+        Falling::Release(left) => {
+            channel.release = left;
+            channel
+        }
+        Falling::Due => run_out(channel),
+    }
+}
+
+// What is sent when a timer runs out.
+fn run_out_send(listeners: u8, own: Number, channel: Channel) -> Send
+    ensures { λ r. ⌜ heard (r ∷ []) ≡ heard (runOut (context listeners own) channel .sends) ⌝ }
+{
+    let call = channel.call;
+    let holder = channel.holder;
+    if 0 < channel.quiet {
+        end(3, call)
+    } else {
+        freed(listeners, own, holder)
     }
 }
 
@@ -673,22 +680,9 @@ fn tick_send(listeners: u8, own: Number, channel: Channel) -> Send
     let falling = falls(channel);
     match falling {
         Falling::Neither => SILENT,
-        Falling::Quiet => {
-            let call = channel.call;
-            if 1 < channel.quiet {
-                SILENT
-            } else {
-                end(3, call)
-            }
-        }
-        Falling::Release => {
-            let holder = channel.holder;
-            if 1 < channel.release {
-                SILENT
-            } else {
-                freed(listeners, own, holder)
-            }
-        }
+        Falling::Quiet(_) => SILENT,
+        Falling::Release(_) => SILENT,
+        Falling::Due => run_out_send(listeners, own, channel),
     }
 }
 
@@ -749,11 +743,12 @@ fn tick_sends_any(channel: Channel) -> bool
     let falling = falls(channel);
     match falling {
         Falling::Neither => false,
-        Falling::Quiet => {
+        Falling::Quiet(_) => false,
+        Falling::Release(_) => false,
+        Falling::Due => {
             let call = channel.call;
-            (channel.quiet <= 1) & is_open(call)
+            (channel.quiet == 0) | is_open(call)
         }
-        Falling::Release => channel.release <= 1,
     }
 }
 

@@ -135,9 +135,10 @@ pub struct Moved {
     pub sends: [Send; 7],
 }
 
-// The timer that falls at a tick.
+// What a tick does to the timers: neither falls, one of them falls to so many seconds, or one runs out.
 pub enum Falling {
     Neither,
-    Quiet,
-    Release,
+    Quiet(u8),
+    Release(u8),
+    Due,
 }
