@@ -109,10 +109,8 @@ module _ (c : Channel) where
       let runs : 0 < c .quiet = omega arith in
       simp (n .0, n .1, lt-ltb 0 (c .quiet) runs, lt-leb (c .quiet) 1 q) refl
 
-  pub release-left : (eqb (c .quiet) 0 && ltb 1 (c .release)) ≡ true → 1 ≤ c .release
-  release-left t =
-      let b = both (eqb (c .quiet) 0) (ltb 1 (c .release)) t in
-      omega (arith, ltb-true 1 (c .release) (b .1))
+  pub release-left : (eqb (c .quiet) 0 && ltb 1 (c .release)) ≡ true → 1 < c .release
+  release-left t = ltb-true 1 (c .release) (both (eqb (c .quiet) 0) (ltb 1 (c .release)) t .1)
 
   module _ (z : (eqb (c .quiet) 0 && not (isHeld (c .holder))) ≡ false) (h : (c .pressed || isPresent (c .arrival)) ≡ false) where
     held : eqb (c .quiet) 0 ≡ true → isHeld (c .holder) ≡ true

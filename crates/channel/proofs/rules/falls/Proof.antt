@@ -2,6 +2,7 @@
 -- Assumes nothing.
 use borrow.Author.Needs.{needs}
 use mathlib.Core.Path.{sym}
+use native.Mathlib.Omega.{arith}
 use Rattle.channel.proofs.Ticks.{at-rest, talked, quiet-falls, release-left, release-falls, runs-out}
 use Rattle.channel.proofs.rules.falls.Statement.{statement}
 use Rattle.channel.proofs.rules.falls.Tie as tie
@@ -25,7 +26,7 @@ returns-3 : tie.Need-returns-3
 returns-3 c = sym (quiet-falls _ (rw (c .before .before .before .before .before .is-present .ensures) at (c .before .before .before .if2 .left)) (c .before .if3 .taken))
 
 sub-t9 : tie.Need-sub-t9
-sub-t9 c = release-left (c .before .before .before .before .before .before .before .before .before .before .before .before .args .channel) (c .before .if4 .taken)
+sub-t9 c = omega (arith, release-left (c .before .before .before .before .before .before .before .before .before .before .before .before .args .channel) (c .before .if4 .taken))
 
 returns-4 : tie.Need-returns-4
 returns-4 c =
