@@ -4,13 +4,12 @@ use Prim.Native.Nat.{ℕ, _≤_}
 use mathlib.Core.List.{List}
 use mathlib.Core.Bool.{Bool, true, false, _&&_, cond, false≢true}
 use mathlib.Core.Path.{_≡_, refl, sym, ap, _∙_}
-use lib.Dec.{eqb, leb}
-use borrow.Author.Tests.{eq-eqb, ne-eqb, leb-true}
-use Rattle.channel.specs.declared.state.Event.the-variants.{Capture, Release}
+use lib.Dec.{leb}
+use borrow.Author.Tests.{leb-true}
 use Rattle.entries.specs.Planned.{planOf}
 use Rattle.set_rules.specs.State.{hasDesk, deskAt, hasChannel, channelAt}
 use Rattle.set_rules.specs.Plan.{deskCount, planOk, setOf}
-use Rattle.set_rules.specs.SetRules.{timeTaken, answerTaken, onChannel, onPlan}
+use Rattle.set_rules.specs.SetRules.{onPlan}
 use Rattle.set_rules.specs.Feeds.{refuse, emit}
 use Rattle.set_rules.specs.declared.state.LineSet.{LineSet}
 use Rattle.line_set.specs.Judging.{requestRefusal}
@@ -65,15 +64,6 @@ desks-few p h =
 -- ---- requests
 
 module _ (s : LineSet) (d : ℕ) (q : Request) where
-  pub by-time : q .identifier ≡ 550411 → timeTaken s d ≡ requestEffect s d q
-  by-time h = rw (eq-eqb _ _ h) refl
-
-  pub by-answer : q .identifier ≡ 550421 → answerTaken s d (q .flag) ≡ requestEffect s d q
-  by-answer h = rw h refl
-
-  pub by-order : (q .identifier ≡ 550411 → ⊥) → (q .identifier ≡ 550421 → ⊥) → onChannel s (q .channel) d (cond (eqb (q .flag) 1) (Capture d) (Release d)) ≡ requestEffect s d q
-  by-order h k = rw (ne-eqb _ _ h, ne-eqb _ _ k) refl
-
   module _ (n : ℕ) where
     pub no-desk : hasDesk s d ≡ false → refuse 7 s ≡ requestOutcome s d q n
     unfolding requestOutcome

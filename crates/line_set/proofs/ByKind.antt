@@ -1,6 +1,6 @@
 -- The step, kind by kind: what the table of refusals and the rules give for an entry of each kind.
 -- Assumes nothing.
-use Prim.Native.Nat.{ℕ, zero, suc, _≤_, _<_}
+use Prim.Native.Nat.{ℕ, zero, suc, _≤_}
 use mathlib.Core.List.{List}
 use mathlib.Core.Bool.{Bool, true, false, _&&_, _||_, not, cond}
 use mathlib.Core.Logic.{_⊎_, inl, inr}
@@ -70,7 +70,7 @@ phase-form : (p : Bool) → _≡_ {A = ℕ} (cond (not p) 11 0) (cond p 0 11)
 phase-form false = refl
 phase-form true = refl
 
--- a kind from 2 to 5, and one that is none of them
+-- a kind from 2 to 5
 pub two-to-five : (k : ℕ) → 2 ≤ k → k ≤ 5 → (k ≡ 2) ⊎ ((k ≡ 3) ⊎ ((k ≡ 4) ⊎ (k ≡ 5)))
 two-to-five zero a b = absurd (omega arith)
 two-to-five (suc zero) a b = absurd (omega arith)
@@ -79,10 +79,6 @@ two-to-five (suc (suc (suc zero))) a b = inr (inl refl)
 two-to-five (suc (suc (suc (suc zero)))) a b = inr (inr (inl refl))
 two-to-five (suc (suc (suc (suc (suc zero))))) a b = inr (inr (inr refl))
 two-to-five (suc (suc (suc (suc (suc (suc k)))))) a b = absurd (omega arith)
-
-pub outside : (k j : ℕ) → (k < 1) ⊎ (6 ≤ k) → 2 ≤ j → j ≤ 5 → k ≡ j → ⊥
-outside k j (inl h) a b e = omega arith
-outside k j (inr h) a b e = omega arith
 
 -- ---- an entry that could be read, before a set with a plan
 
@@ -219,12 +215,9 @@ module _ (s : LineSet) (e : List ℕ) (x : Entry) (z : x .refusal ≡ 0) (p : s 
     unfolding refusalOf accepted
     telegram-step k = simp (z, k) (by-reading (readTelegram (telegramIn e)) k)
 
-  -- a kind that is none of the others is a handover
-  pub handover-step : (room : ℕ) → eqb (x .kind) 1 ≡ false → eqb (x .kind) 2 ≡ false → eqb (x .kind) 3 ≡ false → eqb (x .kind) 4 ≡ false
-      → eqb (x .kind) 5 ≡ false → eqb (x .kind) 6 ≡ false → eqb (x .kind) 7 ≡ false
-      → judged s (refusalOf s e x) (accepted s e x) room ≡ emit s (onHandover s) room
+  pub handover-step : (room : ℕ) → x .kind ≡ 8 → judged s (refusalOf s e x) (accepted s e x) room ≡ emit s (onHandover s) room
   unfolding judged refusalOf firstOf accepted
-  handover-step room k1 k2 k3 k4 k5 k6 k7 = simp (z, p, k1, k2, k3, k4, k5, k6, k7) refl
+  handover-step room k = simp (z, k, p) refl
 
 -- ---- before the plan, and what cannot be read
 

@@ -6,22 +6,20 @@ use mathlib.Core.Bool.{false, false≢true}
 use mathlib.Core.Path.{_≡_, refl, sym, ap, subst, _∙_}
 use native.Mathlib.Omega.{arith}
 use lib.ListN.{length}
-use borrow.Author.Tests.{eq-eqb, ne-eqb, le-leb, lt-leb}
+use borrow.Author.Tests.{le-leb, lt-leb}
 use Rattle.channel.specs.Scripts.{heard, any}
-use Rattle.channel.specs.declared.state.Event.{Event}
 use Rattle.channel.specs.declared.state.Send.{Send}
 use Rattle.records.specs.Emitting.{written}
 use Rattle.records.proofs.Writing.{written-none, written-over}
 use Rattle.records.proofs.Heard.{heard-records, heard-space}
-use Rattle.set_rules.specs.State.{placeIn, channelAt}
 use Rattle.set_rules.specs.Records.{Delivery, delivered, recordsOf, spaceOf}
-use Rattle.set_rules.specs.SetRules.{Effect, onChannel}
+use Rattle.set_rules.specs.SetRules.{Effect}
 use Rattle.set_rules.specs.Feeds.{Outcome, answerOf, refuse, emit}
 use Rattle.set_rules.proofs.Answers.{AllEven, space-length}
 use Rattle.set_rules.specs.declared.state.Desk.{Desk}
 use Rattle.set_rules.specs.declared.state.LineSet.{LineSet}
 use Rattle.set_rules.specs.declared.state.Answer.{Answer}
-use Rattle.line_set.specs.Steps.{Gives, judged, effectAt}
+use Rattle.line_set.specs.Steps.{Gives}
 
 -- ---- sends that are heard alike
 
@@ -36,6 +34,10 @@ nothing-sent [] h = refl
 nothing-sent (s ∷ ss) h = absurd (false≢true (sym h))
 
 -- ---- outcomes
+
+-- what is not refused
+abbrev pub accepted : LineSet → ℕ → Answer
+accepted t n = record { set = t; count = n; refusal = 0 }
 
 pub refused : (s : LineSet) (n : ℕ) (b : List ℕ) {r : Answer} → r ≡ answerOf (refuse n s) → Gives (refuse n s) r b b
 refused s n b e = record { answer = e; bytes = refl }
@@ -53,27 +55,11 @@ module _ (s : LineSet) (f : Effect) (b : List ℕ) where
   no-room h e = rw (lt-leb (spaceOf (f .sent)) (length b) h) (refused s 16 b e)
 
   pub emitted : {r : Answer} {a : List ℕ} → spaceOf (f .sent) ≤ length b → AllEven (f .sent)
-      → a ≡ written b 0 (recordsOf (f .desks) (f .sent)) → r ≡ record { set = f .after; count = spaceOf (f .sent); refusal = 0 }
+      → a ≡ written b 0 (recordsOf (f .desks) (f .sent)) → r ≡ accepted (f .after) (spaceOf (f .sent))
       → Gives (emit s f (length b)) r b a
   emitted h e w k =
       let l : length (recordsOf (f .desks) (f .sent)) ≤ length b = omega (arith, h, space-length (f .desks) (f .sent) e) in
       rw (le-leb (spaceOf (f .sent)) (length b) h) (record { answer = k; bytes = w ∙ written-over b _ l })
-
-  pub judged-bad : (n : ℕ) {r : Answer} → (n ≡ 0 → ⊥) → r ≡ answerOf (refuse n s) → Gives (judged s n f (length b)) r b b
-  unfolding judged
-  judged-bad n h e = rw (ne-eqb n 0 h) (refused s n b e)
-
-  pub judged-good : (n : ℕ) {r : Answer} {a : List ℕ} → n ≡ 0 → Gives (emit s f (length b)) r b a → Gives (judged s n f (length b)) r b a
-  unfolding judged
-  judged-good n h g = rw (eq-eqb n 0 h) g
-
-pub gives-by : (s : LineSet) (n : ℕ) {f g : Effect} {r : Answer} {b a : List ℕ} → f ≡ g → Gives (emit s f n) r b a → Gives (emit s g n) r b a
-gives-by s n {f} {g} {r} {b} {a} e h = subst (λ (x : Effect). Gives (emit s x n) r b a) e h
-
--- the rule's channel, where it was found
-pub at-channel : (s : LineSet) (ch d : ℕ) (v : Event) → effectAt s (placeIn s ch) (channelAt s ch) d v ≡ onChannel s ch d v
-unfolding effectAt onChannel
-at-channel s ch d v = refl
 
 pub gives-as : {o o′ : Outcome} {r : Answer} {b a : List ℕ} → o ≡ o′ → Gives o r b a → Gives o′ r b a
 gives-as {o} {o′} {r} {b} {a} e h = subst (λ (x : Outcome). Gives x r b a) e h

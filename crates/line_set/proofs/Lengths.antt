@@ -1,14 +1,14 @@
--- How long an entry is that could be read.
+-- How long an entry is that could be read, and of which kind.
 -- Assumes nothing.
-use Prim.Native.Nat.{ℕ, _≤_}
+use Prim.Native.Nat.{ℕ, _≤_, _<_}
 use mathlib.Core.List.{List}
-use mathlib.Core.Bool.{Bool, true, false, false≢true}
+use mathlib.Core.Bool.{Bool, true, false, _&&_, false≢true}
 use mathlib.Core.Path.{_≡_, refl, sym, _∙_}
 use native.Mathlib.Omega.{arith}
-use lib.Dec.{eqb, leb}
+use lib.Dec.{eqb, leb, ltb}
 use lib.ListN.{length}
-use borrow.Author.Tests.{leb-true, eqb-true}
-use Rattle.set_rules.specs.Entries.{byte, measured, payload, payloadOk, readEntry}
+use borrow.Author.Tests.{leb-true, eqb-true, ltb-true, ltb-false, ne-eqb}
+use Rattle.set_rules.specs.Entries.{byte, measured, payload, sizeOk, payloadOk, readEntry}
 
 kind-is : (k : ℕ) (e : List ℕ) → payload k e .kind ≡ k
 kind-is k e = go (eqb k 1) refl (eqb k 2) refl (eqb k 3) refl (eqb k 4) refl (eqb k 5) refl
@@ -46,3 +46,55 @@ with-desk-byte e z k = go (measured e) refl (eqb (byte e 2) 1) refl (payloadOk (
     go true p false q c r = absurd (let f : _≡_ {A = ℕ} 2 0 = rw (p, q) at z in omega arith)
     go true p true q false r = absurd (let f : _≡_ {A = ℕ} 3 0 = rw (p, q, r) at z in omega arith)
     go true p true q true r = of-kind r (sym (kind-is (byte e 3) e) ∙ rw (p, q, r) at k)
+
+-- ---- its kind
+
+refusal-is : (k : ℕ) (e : List ℕ) → payload k e .refusal ≡ 0
+refusal-is k e = go (eqb k 1) refl (eqb k 2) refl (eqb k 3) refl (eqb k 4) refl (eqb k 5) refl
+  where
+    go : (a : Bool) → eqb k 1 ≡ a → (b : Bool) → eqb k 2 ≡ b → (c : Bool) → eqb k 3 ≡ c → (d : Bool) → eqb k 4 ≡ d → (f : Bool) → eqb k 5 ≡ f → payload k e .refusal ≡ 0
+    go true p b q c r d s f t = rw p refl
+    go false p true q c r d s f t = rw (p, q) refl
+    go false p false q true r d s f t = rw (p, q, r) refl
+    go false p false q false r true s f t = rw (p, q, r, s) refl
+    go false p false q false r false s true t = rw (p, q, r, s, t) refl
+    go false p false q false r false s false t = rw (p, q, r, s, t) refl
+
+-- an entry that has a kind could be read
+pub kind-read : (e : List ℕ) → 0 < readEntry e .kind → readEntry e .refusal ≡ 0
+unfolding readEntry
+kind-read e h = go (measured e) refl (eqb (byte e 2) 1) refl (payloadOk (byte e 3) e) refl
+  where
+    go : (a : Bool) → measured e ≡ a → (b : Bool) → eqb (byte e 2) 1 ≡ b → (c : Bool) → payloadOk (byte e 3) e ≡ c → readEntry e .refusal ≡ 0
+    go false p b q c r = absurd (let f : 0 < 0 = rw p at h in omega arith)
+    go true p false q c r = absurd (let f : 0 < 0 = rw (p, q) at h in omega arith)
+    go true p true q false r = absurd (let f : 0 < 0 = rw (p, q, r) at h in omega arith)
+    go true p true q true r = rw (p, q, r) (refusal-is (byte e 3) e)
+
+and-left : (a b : Bool) → (a && b) ≡ true → a ≡ true
+and-left true b h = refl
+and-left false b h = h
+
+-- a payload of a right size is of a kind from 1 to 8
+sized-kind : (k n : ℕ) → sizeOk k n ≡ true → (1 ≤ k) × (k ≤ 8)
+sized-kind k n h = go (ltb 0 k) refl (ltb 8 k) refl
+  where
+    none : ((i : ℕ) → 1 ≤ i → i ≤ 8 → k ≡ i → ⊥) → ⊥
+    none f =
+        let o : (i : ℕ) → 1 ≤ i → i ≤ 8 → eqb k i ≡ false = λ i l u. ne-eqb k i (f i l u) in
+        false≢true (rw (o 1 (omega arith) (omega arith), o 2 (omega arith) (omega arith), o 3 (omega arith) (omega arith), o 4 (omega arith) (omega arith), o 5 (omega arith) (omega arith), o 6 (omega arith) (omega arith), o 7 (omega arith) (omega arith), o 8 (omega arith) (omega arith)) at h)
+
+    go : (a : Bool) → ltb 0 k ≡ a → (b : Bool) → ltb 8 k ≡ b → (1 ≤ k) × (k ≤ 8)
+    go false a t b = let z = ltb-false 0 k a in absurd (none (λ i l u e. omega (arith, z, l, e)))
+    go true a true b = let z = ltb-true 8 k b in absurd (none (λ i l u e. omega (arith, z, u, e)))
+    go true a false b = (omega (arith, ltb-true 0 k a), ltb-false 8 k b)
+
+pub kind-range : (e : List ℕ) → readEntry e .refusal ≡ 0 → (1 ≤ readEntry e .kind) × (readEntry e .kind ≤ 8)
+unfolding readEntry
+kind-range e z = go (measured e) refl (eqb (byte e 2) 1) refl (payloadOk (byte e 3) e) refl
+  where
+    go : (a : Bool) → measured e ≡ a → (b : Bool) → eqb (byte e 2) 1 ≡ b → (c : Bool) → payloadOk (byte e 3) e ≡ c → (1 ≤ readEntry e .kind) × (readEntry e .kind ≤ 8)
+    go false p b q c r = absurd (let f : _≡_ {A = ℕ} 1 0 = rw p at z in omega arith)
+    go true p false q c r = absurd (let f : _≡_ {A = ℕ} 2 0 = rw (p, q) at z in omega arith)
+    go true p true q false r = absurd (let f : _≡_ {A = ℕ} 3 0 = rw (p, q, r) at z in omega arith)
+    go true p true q true r = rw (p, q, r, kind-is (byte e 3) e) (sized-kind (byte e 3) (length e) (and-left _ _ (and-left _ _ r)))

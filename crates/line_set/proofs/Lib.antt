@@ -4,3 +4,6 @@ pub mod Emission
 pub mod Turns
 pub mod Asking
 pub mod Lengths
+pub mod Changing
+pub mod Lifting
+pub mod OneStep

@@ -37,6 +37,12 @@ at-taken [] (suc n) i y z h = absurd (omega arith)
 at-taken (x ∷ xs) (suc n) zero y z h = refl
 at-taken (x ∷ xs) (suc n) (suc i) y z h = at-taken xs n i y z (omega arith)
 
+-- an element that is there, whatever stands for those that are not
+pub any-default : {A : Type 0} (xs : List A) (i : ℕ) (y z : A) → i < length xs → getD xs i y ≡ getD xs i z
+any-default [] i y z h = absurd (omega arith)
+any-default (x ∷ xs) zero y z h = refl
+any-default (x ∷ xs) (suc i) y z h = any-default xs i y z (omega arith)
+
 take-none : (n : ℕ) → take {A = Desk} n [] ≡ []
 take-none zero = refl
 take-none (suc n) = refl
@@ -109,3 +115,9 @@ module _ (code : ℕ) (cs : List Channel) where
   sought-last i h s =
       let e : placeOf code (drop i cs) ≡ 0 = rw (drop-of-length-le cs h) refl in
       omega (arith, s .place, e)
+
+-- ---- two tests at once
+
+pub both : (a b : Bool) → (a && b) ≡ true → (a ≡ true) × (b ≡ true)
+both true b h = (refl, h)
+both false b h = (h, cc)

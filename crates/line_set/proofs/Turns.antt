@@ -10,10 +10,11 @@ use native.Mathlib.Omega.{arith}
 use lib.ListN.{length, take, drop, getD, set, drop-of-length-le}
 use lib.Seq.{drop-cons, take-suc, set-at, getD-at, set-getD, length-take-le}
 use borrow.Author.Tests.{eqb-true}
-use Rattle.channel.specs.Rules.{Context, isPresent, holderPlace, tickIdle, tick, happens}
-use Rattle.channel.specs.declared.state.Holder.{Holder}
-use Rattle.channel.specs.declared.state.Holder.the-variants.{Nobody, Held}
+use Rattle.channel.specs.Rules.{Context, Step, holderPlace, tick, happens}
 use Rattle.channel.specs.declared.state.Channel.{Channel}
+use Rattle.channel.specs.Scripts.{any, falling, tickBy}
+use Rattle.channel.specs.declared.state.Falling.{Falling}
+use Rattle.channel.proofs.Ticks.{tick-falling}
 use Rattle.channel.specs.declared.state.Event.{Event}
 use Rattle.channel.specs.declared.state.Event.the-variants.{Tick}
 use Rattle.records.proofs.Writing.{Split}
@@ -22,7 +23,8 @@ use Rattle.set_rules.specs.Records.{Delivery, delivered, toEach, recordsOf, spa
 use Rattle.set_rules.specs.SetRules.{contextOf, happensIn, nextsOf, sendsOf}
 use Rattle.set_rules.specs.declared.state.Desk.{Desk}
 use Rattle.set_rules.specs.declared.state.LineSet.{LineSet}
-use Rattle.line_set.specs.Steps.{sendsIn, restsIn, sendsFrom}
+use Rattle.line_set.specs.Steps.{contextIn, sendsIn, sendsFrom}
+use Rattle.line_set.proofs.Emission.{nothing-sent}
 use Rattle.line_set.proofs.Places.{take-count, drop-count}
 
 space-append : (vs ws : List Delivery) → spaceOf (vs ++ ws) ≡ spaceOf vs + spaceOf ws
@@ -82,7 +84,21 @@ module _ (ds : List Desk) (n : ℕ) (v : Event) (cs : List Channel) where
   unfolding recordsOf
   put-end i h = rw (sends-end i h) refl
 
+-- ---- what a tick sends where no timer runs out
+
+silent-space : (ds : List Desk) (n : ℕ) (c : Channel) → ((x : Context) → any (tick x c .sends) ≡ false) → spaceOf (sentBy ds n Tick [] c) ≡ 0
+unfolding happens spaceOf delivered
+silent-space ds n c h = rw (nothing-sent (tick (contextIn ds n c (holderPlace (c .holder))) c .sends) (h (contextIn ds n c (holderPlace (c .holder))))) refl
+
+pub sum-silent : (ds : List Desk) (n : ℕ) (cs : List Channel) (i : ℕ) (z : Channel) → i < length cs → ((x : Context) → any (tick x (getD cs i z) .sends) ≡ false)
+    → Summed ds n Tick cs i 0 → Summed ds n Tick cs (i + 1) 0
+sum-silent ds n cs i z h k m = sum-next ds n Tick cs i z 0 0 h (sym (silent-space ds n (getD cs i z) k)) (omega arith) m
+
 -- ---- the channels after a tick
+
+-- a channel, by what the tick does to its timers
+pub fall-next : (x : Context) (c k : Channel) (f : Falling) → falling c ≡ f → c ≡ k → tickBy f x c .next ≡ tick x k .next
+fall-next x c k f e g = sym (ap (λ (st : Step). st .next) (tick-falling x c) ∙ ap (λ (h : Falling). tickBy h x c .next) e) ∙ ap (λ (j : Channel). tick x j .next) g
 
 module _ (s : LineSet) where
   nexts-append : (cs ds : List Channel) → nextsOf s Tick (cs ++ ds) ≡ nextsOf s Tick cs ++ nextsOf s Tick ds
@@ -94,21 +110,6 @@ module _ (s : LineSet) where
   unfolding nextsOf
   length-nexts [] = refl
   length-nexts (c ∷ cs) = ap suc (length-nexts cs)
-
-rest-idle : (x : Context) (c : Channel) (h : Holder) → c .holder ≡ h → restsIn c ≡ true → tickIdle x c .next ≡ c
-unfolding tickIdle
-rest-idle x c Nobody k r = let q : c .quiet ≡ 0 = eqb-true (c .quiet) 0 (rw k at r) in simp (q, k) refl
-rest-idle x c (Held d) k r = absurd (false≢true (rw k at r))
-
--- a tick leaves a channel on which no timer runs
-rest-ticked : (x : Context) (c : Channel) → restsIn c ≡ true → tick x c .next ≡ c
-unfolding tick
-rest-ticked x c r = go (c .pressed) refl (isPresent (c .arrival)) refl
-  where
-    go : (p : Bool) → c .pressed ≡ p → (a : Bool) → isPresent (c .arrival) ≡ a → tick x c .next ≡ c
-    go true p a q = simp p refl
-    go false p true q = simp (p, q) refl
-    go false p false q = simp (p, q) (rest-idle x c (c .holder) refl r)
 
 module _ (cs : List Channel) where
   -- the first i channels are ticked
@@ -135,12 +136,9 @@ module _ (cs : List Channel) where
           rw (add-one, m .is s, drop-cons cs i z h, set-at (nextsOf s Tick (take i cs)) (getD cs i z) (drop (suc i) cs) y i n, take-suc cs i z h, nexts-append s (take i cs) (getD cs i z ∷ []), e (contextOf s (getD cs i z) (holderPlace (getD cs i z .holder))))
           (sym (append-assoc (nextsOf s Tick (take i cs)) (happensIn s Tick (getD cs i z) .next ∷ []) (drop (suc i) cs)))
 
-  -- a channel at rest stays as it is
-  pub tick-kept : (i : ℕ) (y z : Channel) (out : List Channel) → i < length cs → restsIn (getD out i y) ≡ true → Ticked i out → Ticked (i + 1) out
-  tick-kept i y z out h r m =
-      let g = tick-at i y z out h m in
-      let k : (x : Context) → getD out i y ≡ tick x (getD cs i z) .next = λ x. sym (rest-ticked x (getD out i y) r) ∙ ap (λ (c : Channel). tick x c .next) g in
-      subst (λ (l : List Channel). Ticked (i + 1) l) (set-getD out i y) (tick-next i z out (getD out i y) h k m)
+  -- a channel that a tick leaves
+  pub tick-kept : (i : ℕ) (y z : Channel) (out : List Channel) → i < length cs → ((x : Context) → getD out i y ≡ tick x (getD cs i z) .next) → Ticked i out → Ticked (i + 1) out
+  tick-kept i y z out h k m = subst (λ (l : List Channel). Ticked (i + 1) l) (set-getD out i y) (tick-next i z out (getD out i y) h k m)
 
   -- as many as a plan has
   pub tick-last : (n i : ℕ) (out : List Channel) → i ≡ length (take n cs) → Ticked i out → (s : LineSet) → out ≡ nextsOf s Tick (take n cs) ++ drop n cs

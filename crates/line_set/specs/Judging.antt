@@ -45,8 +45,8 @@ abbrev pub requestRefusal : Request → ℕ → Desk → Bool → Channel → �
 requestRefusal q d k found c =
     cond (eqb (q .refusal) 0)
     (cond (eqb (k .link .phase) (phaseOf (q .identifier)))
-    (cond (eqb (q .identifier) 550600)
-    (cond (found && isIn d (c .entitled)) (cond (eqb (q .number) (k .number .digits)) 0 13) 12)
-    0)
+    (cond (eqb (q .identifier) 550411) 0
+    (cond (eqb (q .identifier) 550421) 0
+    (cond (found && isIn d (c .entitled)) (cond (eqb (q .number) (k .number .digits)) 0 13) 12)))
     11)
     (q .refusal)

@@ -1,12 +1,18 @@
 -- What a desk's telegram asks, as the code holds it. It serves the contracts of inner functions.
 use Prim.Native.Nat.{ℕ}
-use mathlib.Core.Bool.{_&&_, not, cond}
-use lib.Dec.{eqb}
+use mathlib.Core.List.{List}
+use mathlib.Core.Bool.{Bool, _&&_, not, cond}
+use lib.Dec.{eqb, ltb}
+use lib.ListN.{getD}
+use Rattle.telegram.specs.Telegram.{readTelegram}
 use Rattle.telegram.specs.declared.message.Message.{Message}
 use Rattle.telegram.specs.declared.message.Message.the-variants.{TimeNotice, OperationAnswer, TimeRequest, BaseArrival, OperationRequest, Call, CallerNotice, CaptureRequest, CaptureReply, CaptureState}
 use Rattle.telegram.specs.declared.message.Reading.{Reading}
 use Rattle.telegram.specs.declared.message.Reading.the-variants.{Telegram, Refused}
+use Rattle.set_rules.specs.State.{noDesk}
 use Rattle.set_rules.specs.Refusals.{deskSends}
+use Rattle.set_rules.specs.declared.state.Desk.{Desk}
+use Rattle.set_rules.specs.declared.state.Entry.{Entry}
 use Rattle.line_set.specs.declared.request.Request.{Request}
 
 -- an identifier, with the channel and the number of a capture request, and its order or the state of an operation answer
@@ -41,3 +47,14 @@ unreadRequest k (Refused n c i) = asksNothing (unread k n c i)
 abbrev pub requestIn : ℕ → Reading → Request
 requestIn k (Telegram c m) = cond (eqb c k) (askedBy m) (asksNothing 8)
 requestIn k (Refused n c i) = asksNothing (unread k n c i)
+
+-- what an entry asks, by its payload and its telegram
+unfoldable pub requestFor : List Desk → ℕ → Bool → Entry → List ℕ → Request
+requestFor ds n planned x telegram =
+    cond (eqb (x .refusal) 0)
+    (cond planned
+    (cond (eqb (x .kind) 1)
+    (cond (ltb (x .desk) n) (requestIn (getD ds (x .desk) noDesk .code) (readTelegram telegram)) (asksNothing 7))
+    (asks 0 (x .channel) 0 0))
+    (asksNothing 4))
+    (asksNothing (x .refusal))

@@ -1,12 +1,12 @@
 -- One entry as the code takes it, kind by kind. `proofs/ByKind.antt` shows that together they are `stepOf`.
 use Prim.Native.Nat.{ℕ}
 use mathlib.Core.List.{List, [], _∷_, _++_}
-use mathlib.Core.Bool.{Bool, false, cond}
+use mathlib.Core.Bool.{Bool, cond}
 use mathlib.Core.Path.{_≡_}
 use lib.Dec.{eqb}
 use lib.ListN.{take, getD, set}
 use Rattle.telegram.specs.Telegram.{over}
-use Rattle.channel.specs.Rules.{Context, isHeld, holderPlace, happens}
+use Rattle.channel.specs.Rules.{Context, holderPlace, happens}
 use Rattle.channel.specs.declared.state.Channel.{Channel}
 use Rattle.channel.specs.declared.state.Send.{Send}
 use Rattle.channel.specs.declared.state.Event.{Event}
@@ -40,21 +40,10 @@ contextIn ds n c d = record { listeners = runningFrom 0 (c .entitled) (take n ds
 abbrev pub sendsIn : List Desk → ℕ → Event → Channel → List Send
 sendsIn ds n v c = happens v (contextIn ds n c (holderPlace (c .holder))) c .sends
 
--- no timer runs
-abbrev pub restsIn : Channel → Bool
-restsIn c = cond (isHeld (c .holder)) false (eqb (c .quiet) 0)
-
 -- what an event on these channels sends
 unfoldable pub sendsFrom : List Desk → ℕ → Event → List Channel → List Delivery
 sendsFrom ds n v [] = []
 sendsFrom ds n v (c ∷ cs) = delivered (c .code) (sendsIn ds n v c) ++ sendsFrom ds n v cs
-
--- an event on a channel that was found at a place
-unfoldable pub effectAt : LineSet → ℕ → Channel → ℕ → Event → Effect
-effectAt s place c d v =
-    effect s
-    (withChannels (set (s .channels) place (happens v (contextOf s c d) c .next)) s)
-    (delivered (c .code) (happens v (contextOf s c d) c .sends))
 
 -- what an entry that is no telegram makes happen on its channel
 abbrev pub eventOf : Entry → Event

@@ -1,13 +1,15 @@
 // Ticks and handovers: an event on every channel of the plan, in its order.
+use super::answer;
+use super::change;
 use super::lookup;
-use super::one;
 use channel::Channel;
 use channel::Event;
-use channel::Holder;
+use channel::Falling;
 use set_rules::Answer;
 use set_rules::Desk;
 use set_rules::LineSet;
 ghost use mathlib.Core.Path.{_≡_};
+ghost use mathlib.Core.Bool.{false};
 ghost use Prim.Native.Nat.{_+_, _≤_};
 ghost use lib.ListN.{length};
 ghost use Rattle.channel.specs.declared.state.Event.the-variants.{Tick};
@@ -17,7 +19,7 @@ ghost use Rattle.set_rules.specs.Records.{delivered, recordsOf, spaceOf};
 ghost use Rattle.set_rules.specs.SetRules.{sendsOf, onTick, onHandover};
 ghost use Rattle.set_rules.specs.Feeds.{emit};
 ghost use Rattle.set_rules.specs.declared.state.LineSet.{LineSet};
-ghost use Rattle.line_set.specs.Steps.{Gives, sendsIn, restsIn};
+ghost use Rattle.line_set.specs.Steps.{Gives, sendsIn};
 
 // The space that an event on one channel takes. Most channels are at rest, and then nothing is built.
 fn space_in(desks: [Desk; 4], n: u8, event: Event, c: Channel) -> usize
@@ -28,7 +30,7 @@ fn space_in(desks: [Desk; 4], n: u8, event: Event, c: Channel) -> usize
     }
     let holder = c.holder;
     let d = channel::holder_place(holder);
-    let m = one::moved(desks, n, d, event, c);
+    let m = change::moved(desks, n, d, event, c);
     let sends = m.sends;
     records::space(sends)
 }
@@ -43,7 +45,7 @@ fn put_in(buffer: &mut [u8], at: usize, desks: [Desk; 4], n: u8, event: Event, c
     }
     let holder = c.holder;
     let d = channel::holder_place(holder);
-    let m = one::moved(desks, n, d, event, c);
+    let m = change::moved(desks, n, d, event, c);
     let sends = m.sends;
     records::put(buffer, at, desks, c.code, sends)
 }
@@ -83,51 +85,64 @@ fn put_all(set: LineSet, event: Event, buffer: &mut [u8]) -> usize
     at
 }
 
-// A channel on which no timer runs. A tick leaves it as it is.
-fn rests(c: Channel) -> bool
-    ensures { λ r. ⌜ r ≡ restsIn c ⌝ }
-{
-    let holder = c.holder;
-    match holder {
-        Holder::Nobody => c.quiet == 0,
-        Holder::Held(_) => false,
-    }
+// A set after a tick, and whether a timer ran out: only then can the tick send anything.
+struct TickedSet {
+    set: LineSet,
+    due: bool,
 }
 
-// The answer to a tick that writes so many bytes. What a tick sends has no part in the channels after it.
-fn ticked(mut set: LineSet, count: usize) -> Answer
-    ensures { λ r. ⌜ r ≡ record { set = onTick set .after; count = count; refusal = 0 } ⌝ }
+// A tick on all channels. A timer that falls is one byte of the set, and few run out.
+fn ticked(mut set: LineSet) -> TickedSet
+    ensures { λ r. ⌜ (r .set ≡ onTick set .after) × ((r .due ≡ false) → spaceOf (onTick set .sent) ≡ 0) ⌝ }
 {
     let end = lookup::count_of(set.size.channels);
+    let mut due = false;
     let mut i = 0;
     while i < end {
         let c = set.channels[i];
-        if !rests(c) {
-            let next = channel::ticked(c);
-            set.channels[i] = next;
+        let falling = channel::falls(c);
+        match falling {
+            Falling::Neither => {}
+            Falling::Quiet(left) => {
+                set.channels[i].quiet = left;
+            }
+            Falling::Release(left) => {
+                set.channels[i].release = left;
+            }
+            Falling::Due => {
+                let next = channel::ticked(c);
+                set.channels[i] = next;
+                due = true;
+            }
         }
         i += 1;
     }
-    Answer {
-        set,
-        count,
-        refusal: 0,
-    }
+    TickedSet { set, due }
 }
 
 // Most ticks send nothing, and then no channel is looked at for what it sends.
 pub fn tick(set: LineSet, buffer: &mut [u8]) -> Answer
     ensures { λ r. ⌜ Gives (emit set (onTick set) (length (now (buffer .entry)))) r (now (buffer .entry)) (now (buffer .exit)) ⌝ }
 {
-    let need = space_all(set, Event::Tick);
-    if need == 0 {
-        return ticked(set, 0);
+    let t = ticked(set);
+    let after = t.set;
+    if !t.due {
+        return Answer {
+            set: after,
+            count: 0,
+            refusal: 0,
+        };
     }
+    let need = space_all(set, Event::Tick);
     if buffer.len() < need {
-        return one::refuse(set, 16);
+        return answer::refuse(set, 16);
     }
     let end = put_all(set, Event::Tick, buffer);
-    ticked(set, need)
+    Answer {
+        set: after,
+        count: need,
+        refusal: 0,
+    }
 }
 
 pub fn hand_over(set: LineSet, buffer: &mut [u8]) -> Answer
@@ -135,7 +150,7 @@ pub fn hand_over(set: LineSet, buffer: &mut [u8]) -> Answer
 {
     let need = space_all(set, Event::Handover);
     if buffer.len() < need {
-        return one::refuse(set, 16);
+        return answer::refuse(set, 16);
     }
     let end = put_all(set, Event::Handover, buffer);
     let new = LineSet::new();

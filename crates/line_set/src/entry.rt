@@ -1,8 +1,9 @@
 // One entry.
 use super::all;
-use super::links;
-use super::one;
+use super::change;
+use super::lookup;
 use super::plan;
+use super::request;
 use set_rules::Answer;
 use set_rules::LineSet;
 ghost use mathlib.Core.Path.{_≡_};
@@ -10,25 +11,47 @@ ghost use lib.ListN.{length};
 ghost use Rattle.telegram.specs.Telegram.{over};
 ghost use Rattle.set_rules.specs.Feeds.{answerOf, stepOf};
 
-// An entry of any bytes, before any set, with a buffer of any length, ends with the answer that the rules give.
-pub fn step(set: LineSet, entry: &[u8], buffer: &mut [u8]) -> Answer
+// An entry of any bytes, before any set, with a buffer of any length, ends with the answer that the rules give. An entry
+// about one channel or one desk is taken here, with one exit, and what it calls gets the desks and the channel alone: each
+// function that takes the set copies it.
+pub fn step(mut set: LineSet, entry: &[u8], buffer: &mut [u8]) -> Answer
     ensures { λ r. ⌜ (r ≡ answerOf (stepOf set (now (entry .entry)) (length (now (buffer .entry))))) × (now (buffer .exit) ≡ over (stepOf set (now (entry .entry)) (length (now (buffer .entry))) .bytes) (now (buffer .entry))) ⌝ }
 {
     let x = entries::read_entry(entry);
-    if x.refusal != 0 {
-        return one::refuse(set, x.refusal);
-    }
     if x.kind == 7 {
         return plan::plan(set, &entry[4..], buffer);
     }
-    if !set.planned {
-        return one::refuse(set, 4);
+    if set.planned & (x.kind == 6) {
+        return all::tick(set, buffer);
     }
-    let kind = x.kind;
-    match kind {
-        1 => links::telegram(set, x.desk, &entry[5..], buffer),
-        2 | 3 | 4 | 5 => one::line(set, x, buffer),
-        6 => all::tick(set, buffer),
-        _ => all::hand_over(set, buffer),
+    if set.planned & (x.kind == 8) {
+        return all::hand_over(set, buffer);
+    }
+    let desks = set.desks;
+    let n = set.size.desks;
+    let q = request::request_of(x, set.planned, entry, desks, n);
+    let count = lookup::count_of(set.size.channels);
+    // The channel's place is sought. Where it is found, the search ends.
+    let mut end = count;
+    let mut i = 0;
+    while i < end {
+        let c = set.channels[i];
+        if c.code as u32 == q.channel {
+            end = i;
+        } else {
+            i += 1;
+        }
+    }
+    let place = lookup::place_below(count, i);
+    let c = set.channels[place];
+    let a = change::change_of(desks, n, x, q, i < count, c, buffer);
+    let channel = a.channel;
+    set.channels[place] = channel;
+    let after = a.desks;
+    set.desks = after;
+    Answer {
+        set,
+        count: a.count,
+        refusal: a.refusal,
     }
 }

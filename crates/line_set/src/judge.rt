@@ -102,7 +102,10 @@ pub fn judge_request(q: Request, d: u8, desk: Desk, found: bool, c: Channel) -> 
     if desk.link.phase != phase_of(q.identifier) {
         return 11;
     }
-    if q.identifier != 550600 {
+    if q.identifier == 550411 {
+        return 0;
+    }
+    if q.identifier == 550421 {
         return 0;
     }
     if !found {

@@ -1,10 +1,10 @@
 // The line set: one entry after another steps it.
 mod all;
+mod answer;
+mod change;
 mod entry;
 mod judge;
-mod links;
 mod lookup;
-mod one;
 mod plan;
 mod request;
 

@@ -1,16 +1,14 @@
-// Desks and channels by their place in the plan.
-use channel::Channel;
+// Desks by their place in the plan, and how many places to look at.
 use set_rules::Desk;
-use set_rules::LineSet;
 use set_rules::Link;
 use telegram::Number;
 ghost use mathlib.Core.Path.{_≡_};
 ghost use mathlib.Core.Bool.{_&&_, cond};
-ghost use Prim.Native.Nat.{_≤_};
+ghost use Prim.Native.Nat.{_≤_, _<_};
 ghost use lib.Dec.{ltb};
 ghost use lib.ListN.{getD, take};
-ghost use Rattle.set_rules.specs.State.{noDesk, channelsOf, isRunning, runningFrom};
-ghost use Rattle.line_set.specs.Finding.{foundIn, withLinkOf};
+ghost use Rattle.set_rules.specs.State.{noDesk, isRunning, runningFrom};
+ghost use Rattle.line_set.specs.Changes.{withLinkOf};
 
 pub fn desk_at(desks: [Desk; 4], d: u8) -> Desk
     ensures { λ r. ⌜ r ≡ getD desks d noDesk ⌝ }
@@ -74,34 +72,10 @@ pub fn linked(desks: [Desk; 4], d: u8, link: Link) -> [Desk; 4]
     desks
 }
 
-// A channel that was sought by its code.
-pub struct Found {
-    pub channel: Channel,
-    pub place: usize,
-    pub found: bool,
-}
-
-// The first channel of the plan that has this code. Where none has it, the place is the number of channels.
-pub fn find(set: LineSet, code: u32) -> Found
-    ensures { λ r. ⌜ r ≡ foundIn code (channelsOf set) ⌝ }
+// A place below the end, or the first where there is none.
+pub fn place_below(end: usize, place: usize) -> usize
+    requires { ⌜ end ≤ 32 ⌝ }
+    ensures { λ r. ⌜ (r ≡ cond (ltb place end) place 0) × (r < 32) ⌝ }
 {
-    let end = count_of(set.size.channels);
-    let mut i = 0;
-    while i < end {
-        let c = set.channels[i];
-        if c.code as u32 == code {
-            return Found {
-                channel: c,
-                place: i,
-                found: true,
-            };
-        }
-        i += 1;
-    }
-    let none = Channel::new(0, 0);
-    Found {
-        channel: none,
-        place: i,
-        found: false,
-    }
+    if place < end { place } else { 0 }
 }

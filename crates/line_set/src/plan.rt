@@ -1,5 +1,5 @@
 // A plan makes the set anew, and each desk is asked for the time.
-use super::one;
+use super::answer;
 use records::Body;
 use set_rules::Answer;
 use set_rules::LineSet;
@@ -26,18 +26,18 @@ pub fn plan(set: LineSet, bytes: &[u8], buffer: &mut [u8]) -> Answer
     ensures { λ r. ⌜ Gives (planOutcome set (now (bytes .entry)) (length (now (buffer .entry)))) r (now (buffer .entry)) (now (buffer .exit)) ⌝ }
 {
     if set.planned {
-        return one::refuse(set, 5);
+        return answer::refuse(set, 5);
     }
     let p = entries::read_plan(bytes);
     if !p.ok {
-        return one::refuse(set, 6);
+        return answer::refuse(set, 6);
     }
     let next = p.set;
     let desks = next.desks;
     let recipients = first(next.size.desks);
     let need = records::space_to(recipients, Body::TimeRequest);
     if buffer.len() < need {
-        return one::refuse(set, 16);
+        return answer::refuse(set, 16);
     }
     let end = records::put_to(buffer, 0, desks, recipients, Body::TimeRequest);
     Answer {

@@ -1,9 +1,13 @@
-// What a desk's telegram asks of the set. Only here is a whole message taken apart.
+// What an entry asks of the set about one channel or one desk. Only here is a whole message taken apart.
+use super::lookup;
+use set_rules::Desk;
+use set_rules::Entry;
 use telegram::Message;
 use telegram::Reading;
 ghost use mathlib.Core.Path.{_≡_};
 ghost use Rattle.telegram.specs.Telegram.{readTelegram};
-ghost use Rattle.line_set.specs.Requests.{asks, asksNothing, askedBy, unread, unreadRequest, requestIn};
+ghost use Rattle.set_rules.specs.Entries.{readEntry, telegramIn};
+ghost use Rattle.line_set.specs.Requests.{asks, asksNothing, askedBy, unread, unreadRequest, requestIn, requestFor};
 
 // A refusal other than 0 is 8, 9 or 10, and then all else is 0. The flag is a capture request's order or an operation
 // answer's state.
@@ -95,7 +99,7 @@ fn unread_request(code: u32, reading: Reading) -> Request
 }
 
 // What the telegram of a desk with this code asks.
-pub fn read_request(telegram: &[u8], code: u32) -> Request
+fn read_request(telegram: &[u8], code: u32) -> Request
     ensures { λ r. ⌜ r ≡ requestIn code (readTelegram (now (telegram .entry))) ⌝ }
 {
     let reading = telegram::read(telegram);
@@ -110,4 +114,25 @@ pub fn read_request(telegram: &[u8], code: u32) -> Request
         return asks_nothing(8);
     }
     asked_by(message)
+}
+
+// What an entry asks that is about one channel or one desk. A refusal up to 4 is known by now, and of a telegram also 7.
+pub fn request_of(x: Entry, planned: bool, entry: &[u8], desks: [Desk; 4], n: u8) -> Request
+    requires { ⌜ x ≡ readEntry (now entry) ⌝ }
+    ensures { λ r. ⌜ r ≡ requestFor desks n planned x (telegramIn (now (entry .entry))) ⌝ }
+{
+    if x.refusal != 0 {
+        return asks_nothing(x.refusal);
+    }
+    if !planned {
+        return asks_nothing(4);
+    }
+    if x.kind != 1 {
+        return asks(0, x.channel as u32, 0, 0);
+    }
+    if n <= x.desk {
+        return asks_nothing(7);
+    }
+    let desk = lookup::desk_at(desks, x.desk);
+    read_request(&entry[5..], desk.code)
 }

@@ -5,18 +5,14 @@ use mathlib.Core.Path.{ap₂}
 use native.Mathlib.Omega.{arith}
 use denote.Ref.{now}
 use Rattle.set_rules.specs.declared.state.LineSet.{LineSet}
-use Rattle.set_rules.specs.declared.state.Answer.{Answer}
 use Rattle.channel.specs.declared.state.Event.the-variants.{Handover}
 use Rattle.set_rules.specs.State.{channelsOf}
 use Rattle.set_rules.specs.SetRules.{sendsOf, onHandover}
 use Rattle.set_rules.proofs.Answers.{even-all, space-length}
-use Rattle.line_set.proofs.Emission.{no-room, emitted}
+use Rattle.line_set.proofs.Emission.{accepted, no-room, emitted}
 use borrow.Author.Needs.{needs}
 use Rattle.line_set.proofs.all.hand_over.Statement.{statement}
 use Rattle.line_set.proofs.all.hand_over.Tie as tie
-
-abbrev answer : LineSet → ℕ → Answer
-answer t n = record { set = t; count = n; refusal = 0 }
 
 space-all-requires : tie.Need-space-all-requires
 space-all-requires c κs = search needs
@@ -48,7 +44,7 @@ returns-2 c =
     let st = c .before .before .before .before .before .before .before .before in
     let s = st .args .set in
     emitted s (onHandover s) (now (st .args .buffer)) (omega (arith, c .before .before .before .before .before .before .space-all .ensures, c .before .before .before .before .before .if1 .left)) (even-all s Handover (channelsOf s)) (c .before .before .before .put-all .ensures .1)
-    (ap₂ (λ (t : LineSet) (n : ℕ). answer t n) (c .new .ensures) (c .before .before .before .before .before .before .space-all .ensures))
+    (ap₂ (λ (t : LineSet) (n : ℕ). accepted t n) (c .new .ensures) (c .before .before .before .before .before .before .space-all .ensures))
 
 pub hand-over-spec : {M : Type 1} → statement M
 hand-over-spec =

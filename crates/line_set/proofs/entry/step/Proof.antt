@@ -1,208 +1,228 @@
--- `line_set::step` meets its contract, kind by kind.
+-- `line_set::step` meets its contract: a plan, a tick and a handover are taken whole, and any other entry by its channel.
 -- Assumes nothing.
-use Prim.Native.Nat.{ℕ, _≤_, _<_}
+use Prim.Native.Nat.{ℕ, _-_, _≤_, _<_}
 use mathlib.Core.Logic.{_⊎_, inl, inr}
 use mathlib.Core.List.{List}
-use mathlib.Core.Bool.{true, false}
-use mathlib.Core.Path.{_≡_, sym, ap, ap₂, _∙_}
+use mathlib.Core.Path.{_≡_, refl, sym, ap, _∙_}
 use native.Mathlib.Omega.{arith}
 use lib.Dec.{eqb}
-use lib.ListN.{length}
+use lib.ListN.{length, length-map}
 use denote.Ref.{now}
-use borrow.Author.Tests.{ne-eqb, not-true, not-false}
-use Rattle.telegram.specs.Telegram.{readTelegram}
+use borrow.Author.Tests.{eq-eqb, ne-eqb, eqb-true}
 use Rattle.telegram.proofs.TelegramLaws.{part-to-end}
-use Rattle.set_rules.specs.State.{deskAt}
+use Rattle.channel.specs.declared.state.Channel.{Channel}
+use Rattle.set_rules.specs.State.{noChannel, channelsOf, placeOf}
 use Rattle.set_rules.specs.Entries.{readEntry}
-use Rattle.set_rules.specs.Feeds.{answerOf, refuse}
 use Rattle.set_rules.specs.declared.state.Entry.{Entry}
-use Rattle.line_set.specs.Requests.{requestIn}
-use Rattle.line_set.specs.Steps.{lineOutcome, requestOutcome, planOutcome}
+use Rattle.line_set.specs.Steps.{planOutcome}
 use borrow.Author.Needs.{needs}
-use Rattle.line_set.proofs.ByKind.{two-to-five, outside, line-step, tick-step, handover-step, telegram-step, plan-step, unplanned-step, bad-step, step-gives}
-use Rattle.line_set.proofs.Emission.{refused, gives-as}
-use Rattle.line_set.proofs.Lengths.{long-enough, with-desk-byte}
+use Rattle.line_set.proofs.ByKind.{tick-step, handover-step, plan-step, step-gives}
+use Rattle.line_set.proofs.Emission.{gives-as}
+use Rattle.line_set.proofs.Lengths.{long-enough, kind-read}
+use Rattle.line_set.proofs.OneStep.{finished}
+use Rattle.line_set.proofs.Places.{Sought, sought-first, sought-next, sought-found, sought-last, count-is, at-taken, any-default, both}
 use Rattle.line_set.proofs.entry.step.Statement.{statement}
 use Rattle.line_set.proofs.entry.step.Tie as tie
 
-read-entry-requires : tie.Need-read-entry-requires
+-- the channels passed have another code, and the end is that of the plan's channels or the place sought
+abbrev Inv : ℕ → List Channel → ℕ → ℕ → ℕ → Type 0
+Inv code cs count end i = Sought code cs i × (i ≤ end) × (end ≤ count) × ((end ≡ count) ⊎ (end ≡ placeOf code cs))
+
+abbrev Inv-loop : tie.InvT-loop
+Inv-loop entry buffer set x desks n q count end₀ i₀ end i = Inv (q .channel) (channelsOf set) count end i
+
+abbrev μ-loop : tie.MeasureT-loop
+μ-loop entry buffer set x desks n q count end₀ i₀ end i = end - i
+
+read-entry-requires : tie.Need-read-entry-requires Inv-loop μ-loop
 read-entry-requires c κs = search needs
 
-refuse-requires : tie.Need-refuse-requires
-refuse-requires c κs = search needs
+sub-plan : tie.Need-sub-plan Inv-loop μ-loop
+sub-plan c = let k = (ap (λ (y : Entry). y .kind) (sym (c .before .before .read-entry .ensures)) ∙ c .if1 .taken) in long-enough (now (c .before .before .before .before .before .args .entry)) (kind-read (now (c .before .before .before .before .before .args .entry)) (omega (arith, k)))
 
-returns : tie.Need-returns
-returns c =
-    let st = c .before .before .before .before .before .before in
-    let s = st .args .set in
-    let e = now (st .args .entry) in
-    let b = now (st .args .buffer) in
-    let x = c .before .before .before .read-entry .ensures in
-    step-gives s e b (bad-step s e (readEntry e) (length b) (ne-eqb _ _ (λ z. c .before .if1 .taken (ap (λ (y : Entry). y .refusal) x ∙ z))))
-    (refused s (readEntry e .refusal) b (c .refuse .ensures ∙ ap (λ (y : Entry). answerOf (refuse (y .refusal) s)) x))
+part-plan-start : tie.Need-part-plan-start Inv-loop μ-loop
+part-plan-start c = let k = (ap (λ (y : Entry). y .kind) (sym (c .before .before .read-entry .ensures)) ∙ c .if1 .taken) in long-enough (now (c .before .before .before .before .before .args .entry)) (kind-read (now (c .before .before .before .before .before .args .entry)) (omega (arith, k)))
 
-sub-plan : tie.Need-sub-plan
-sub-plan c = long-enough _ (ap (λ (y : Entry). y .refusal) (sym (c .before .before .before .before .read-entry .ensures)) ∙ c .before .before .if1 .left)
-
-part-plan-start : tie.Need-part-plan-start
-part-plan-start c = long-enough _ (ap (λ (y : Entry). y .refusal) (sym (c .before .before .before .before .read-entry .ensures)) ∙ c .before .before .if1 .left)
-
-part-plan-end : tie.Need-part-plan-end
+part-plan-end : tie.Need-part-plan-end Inv-loop μ-loop
 part-plan-end c = search needs
 
-plan-requires : tie.Need-plan-requires
+plan-requires : tie.Need-plan-requires Inv-loop μ-loop
 plan-requires c κs = search needs
 
-same-length : tie.Need-same-length
+same-length : tie.Need-same-length Inv-loop μ-loop
 same-length c = search needs
 
-returns-2 : tie.Need-returns-2
-returns-2 c =
-    let st = c .before .before .before .before .before .before .before .before .before .before .before .before in
-    let s = st .args .set in
+returns : tie.Need-returns Inv-loop μ-loop
+returns c =
+    let st = c .before .before .before .before .before .before .before .before .before .before in
+    let s = st .args .t1 in
     let e = now (st .args .entry) in
     let b = now (st .args .buffer) in
-    let x = c .before .before .before .before .before .before .before .before .before .read-entry .ensures in
-    let z : readEntry e .refusal ≡ 0 = ap (λ (y : Entry). y .refusal) (sym x) ∙ c .before .before .before .before .before .before .before .if1 .left in
-    let k : readEntry e .kind ≡ 7 = ap (λ (y : Entry). y .kind) (sym x) ∙ c .before .before .before .before .before .if2 .taken in
-    step-gives s e b (plan-step s e (readEntry e) (length b) z k)
+    let k : readEntry e .kind ≡ 7 = (ap (λ (y : Entry). y .kind) (sym (c .before .before .before .before .before .before .before .read-entry .ensures)) ∙ c .before .before .before .before .before .if1 .taken) in
+    step-gives s e b (plan-step s e (readEntry e) (length b) (kind-read e (omega (arith, k))) k)
     (gives-as (ap (λ (l : List ℕ). planOutcome s l (length b)) (part-to-end e 4)) (c .before .before .plan .ensures))
 
-refuse-requires-2 : tie.Need-refuse-requires-2
-refuse-requires-2 c κs = search needs
-
-returns-3 : tie.Need-returns-3
-returns-3 c =
-    let st = c .before .before .before .before .before .before .before .before .before .before in
-    let s = st .args .set in
-    let e = now (st .args .entry) in
-    let b = now (st .args .buffer) in
-    let x = c .before .before .before .before .before .before .before .read-entry .ensures in
-    let z : readEntry e .refusal ≡ 0 = ap (λ (y : Entry). y .refusal) (sym x) ∙ c .before .before .before .before .before .if1 .left in
-    step-gives s e b
-    (unplanned-step s e (readEntry e) (length b) z (ne-eqb _ _ (λ k. c .before .before .before .if2 .left (ap (λ (y : Entry). y .kind) x ∙ k))) (not-true _ (c .before .if3 .taken)))
-    (refused s 4 b (c .refuse2 .ensures))
-
-sub-telegram : tie.Need-sub-telegram
-sub-telegram c = with-desk-byte _ (ap (λ (y : Entry). y .refusal) (sym (c .before .before .before .before .before .before .before .read-entry .ensures)) ∙ c .before .before .before .before .before .if1 .left) (ap (λ (y : Entry). y .kind) (sym (c .before .before .before .before .before .before .before .read-entry .ensures)) ∙ c .match .keys1)
-
-part-telegram-start : tie.Need-part-telegram-start
-part-telegram-start c = with-desk-byte _ (ap (λ (y : Entry). y .refusal) (sym (c .before .before .before .before .before .before .before .read-entry .ensures)) ∙ c .before .before .before .before .before .if1 .left) (ap (λ (y : Entry). y .kind) (sym (c .before .before .before .before .before .before .before .read-entry .ensures)) ∙ c .match .keys1)
-
-part-telegram-end : tie.Need-part-telegram-end
-part-telegram-end c = search needs
-
-telegram-requires : tie.Need-telegram-requires
-telegram-requires c κs = search needs
-
-tick-requires : tie.Need-tick-requires
+tick-requires : tie.Need-tick-requires Inv-loop μ-loop
 tick-requires c κs = search needs
 
-line-requires : tie.Need-line-requires
-line-requires c κs = search needs
-
-hand-over-requires : tie.Need-hand-over-requires
-hand-over-requires c κs = search needs
-
-same-length-2 : tie.Need-same-length-2
+same-length-2 : tie.Need-same-length-2 Inv-loop μ-loop
 same-length-2 c = search needs
 
-returns-4 : tie.Need-returns-4
-returns-4 c =
-    let st = c .before .before .before .before .before .before .before .before .before .before .before .before .before .before .before in
-    let s = st .args .set in
+returns-2 : tie.Need-returns-2 Inv-loop μ-loop
+returns-2 c =
+    let st = c .before .before .before .before .before .before .before .before .before .before .before in
+    let s = st .args .t1 in
     let e = now (st .args .entry) in
     let b = now (st .args .buffer) in
-    let x = c .before .before .before .before .before .before .before .before .before .before .before .before .read-entry .ensures in
-    let z : readEntry e .refusal ≡ 0 = ap (λ (y : Entry). y .refusal) (sym x) ∙ c .before .before .before .before .before .before .before .before .before .before .if1 .left in
-    let p : s .planned ≡ true = not-false _ (c .before .before .before .before .before .before .if3 .left) in
-    let k : readEntry e .kind ≡ 1 = ap (λ (y : Entry). y .kind) (sym x) ∙ c .before .before .before .before .before .match .keys1 in
-    step-gives s e b (telegram-step s e (readEntry e) z p (length b) k)
-    (gives-as
-    (ap₂ (λ (d : ℕ) (l : List ℕ). requestOutcome s d (requestIn (deskAt s d .code) (readTelegram l)) (length b)) (ap (λ (y : Entry). y .desk) x) (part-to-end e 5))
-    (c .before .before .telegram .ensures))
+    let t = both _ _ (c .before .before .before .before .if2 .taken) in
+    let k : readEntry e .kind ≡ 6 = (ap (λ (y : Entry). y .kind) (sym (c .before .before .before .before .before .before .before .before .read-entry .ensures)) ∙ eqb-true _ _ (t .1)) in
+    step-gives s e b (tick-step s e (readEntry e) (kind-read e (omega (arith, k))) (t .0) (length b) k) (c .before .before .tick .ensures)
 
-same-length-3 : tie.Need-same-length-3
+hand-over-requires : tie.Need-hand-over-requires Inv-loop μ-loop
+hand-over-requires c κs = search needs
+
+same-length-3 : tie.Need-same-length-3 Inv-loop μ-loop
 same-length-3 c = search needs
 
-returns-5 : tie.Need-returns-5
-returns-5 c =
-    let st = c .before .before .before .before .before .before .before .before .before .before .before .before .before .before in
-    let s = st .args .set in
+returns-3 : tie.Need-returns-3 Inv-loop μ-loop
+returns-3 c =
+    let st = c .before .before .before .before .before .before .before .before .before .before .before .before .before in
+    let s = st .args .t1 in
     let e = now (st .args .entry) in
     let b = now (st .args .buffer) in
-    let x = c .before .before .before .before .before .before .before .before .before .before .before .read-entry .ensures in
-    let z : readEntry e .refusal ≡ 0 = ap (λ (y : Entry). y .refusal) (sym x) ∙ c .before .before .before .before .before .before .before .before .before .if1 .left in
-    let p : s .planned ≡ true = not-false _ (c .before .before .before .before .before .if3 .left) in
-    let k : readEntry e .kind ≡ 6 = ap (λ (y : Entry). y .kind) (sym x) ∙ c .before .before .before .before .match .keys2 in
-    step-gives s e b (tick-step s e (readEntry e) z p (length b) k) (c .before .before .tick .ensures)
+    let t = both _ _ (c .before .before .before .before .if3 .taken) in
+    let k : readEntry e .kind ≡ 8 = (ap (λ (y : Entry). y .kind) (sym (c .before .before .before .before .before .before .before .before .before .before .read-entry .ensures)) ∙ eqb-true _ _ (t .1)) in
+    step-gives s e b (handover-step s e (readEntry e) (kind-read e (omega (arith, k))) (t .0) (length b) k) (c .before .before .hand-over .ensures)
 
-same-length-4 : tie.Need-same-length-4
+request-of-requires : tie.Need-request-of-requires Inv-loop μ-loop
+request-of-requires c κs = c .before .before .before .before .before .before .before .read-entry .ensures
+
+count-of-requires : tie.Need-count-of-requires Inv-loop μ-loop
+count-of-requires c κs = search needs
+
+loop-holds : tie.Need-loop-holds Inv-loop μ-loop
+loop-holds c = (sought-first _ _, omega arith, omega arith, inl refl)
+
+mul-c : tie.Need-mul-c Inv-loop μ-loop
+mul-c c = search needs
+
+element-copy-out-c : tie.Need-element-copy-out-c Inv-loop μ-loop
+element-copy-out-c c = search needs
+
+cast-if4 : tie.Need-cast-if4 Inv-loop μ-loop
+cast-if4 c = search needs
+
+loop-less : tie.Need-loop-less Inv-loop μ-loop
+loop-less c = search needs
+
+loop-again : tie.Need-loop-again Inv-loop μ-loop
+loop-again c =
+    let st = c .before .before .before .before .before .before .before .before .before .before .before .before .before .before .before .before .before .before in
+    let s = st .args .t1 in
+    let l = c .before .before .before .before .before .loop in
+    let n : length (s .channels) ≡ 32 = sym (length-map (s .channels) _) ∙ (st .good .0 .1 .1 .0 .1 .0 .1) in
+    let e = c .before .before .before .before .before .before .count-of .ensures .0 ∙ count-is (s .channels) (s .size .channels) n in
+    let cs = channelsOf s in
+    let code = c .before .before .before .before .before .before .before .request-of .result .channel in
+    let h : l .i < length cs = omega (arith, e, c .before .before .before .before .loop-test .taken, l .inv .2) in
+    let g = at-taken (s .channels) (s .size .channels) (l .i) noChannel _ h in
+    let here = sought-found code cs (l .i) noChannel h (ap (λ (x : Channel). eqb (x .code) code) g ∙ eq-eqb _ _ (c .if4 .taken)) (l .inv .0) in
+    (l .inv .0, omega arith, omega (arith, l .inv .1, l .inv .2), inr here)
+
+add-i : tie.Need-add-i Inv-loop μ-loop
+add-i c = search needs
+
+loop-less-2 : tie.Need-loop-less-2 Inv-loop μ-loop
+loop-less-2 c = search needs
+
+loop-again-2 : tie.Need-loop-again-2 Inv-loop μ-loop
+loop-again-2 c =
+    let st = c .before .before .before .before .before .before .before .before .before .before .before .before .before .before .before .before .before .before in
+    let s = st .args .t1 in
+    let l = c .before .before .before .before .before .loop in
+    let n : length (s .channels) ≡ 32 = sym (length-map (s .channels) _) ∙ (st .good .0 .1 .1 .0 .1 .0 .1) in
+    let e = c .before .before .before .before .before .before .count-of .ensures .0 ∙ count-is (s .channels) (s .size .channels) n in
+    let cs = channelsOf s in
+    let code = c .before .before .before .before .before .before .before .request-of .result .channel in
+    let h : l .i < length cs = omega (arith, e, c .before .before .before .before .loop-test .taken, l .inv .2) in
+    let g = at-taken (s .channels) (s .size .channels) (l .i) noChannel _ h in
+    (sought-next code cs (l .i) noChannel h (ap (λ (x : Channel). eqb (x .code) code) g ∙ ne-eqb _ _ (c .if4 .left)) (l .inv .0), omega (arith, c .before .before .before .before .loop-test .taken), l .inv .2, l .inv .3)
+
+place-below-requires : tie.Need-place-below-requires Inv-loop μ-loop
+place-below-requires c κs = search needs
+
+mul-c-2 : tie.Need-mul-c-2 Inv-loop μ-loop
+mul-c-2 c = search needs
+
+element-copy-out-c-2 : tie.Need-element-copy-out-c-2 Inv-loop μ-loop
+element-copy-out-c-2 c = search needs
+
+change-of-requires : tie.Need-change-of-requires Inv-loop μ-loop
+change-of-requires c κs = search needs
+
+mul-channel : tie.Need-mul-channel Inv-loop μ-loop
+mul-channel c = search needs
+
+element-set-from-channel : tie.Need-element-set-from-channel Inv-loop μ-loop
+element-set-from-channel c = search needs
+
+same-length-4 : tie.Need-same-length-4 Inv-loop μ-loop
 same-length-4 c = search needs
 
-returns-6 : tie.Need-returns-6
-returns-6 c =
-    let st = c .before .before .before .before .before .before .before .before .before .before .before .before .before .before .before .before in
-    let s = st .args .set in
-    let e = now (st .args .entry) in
-    let b = now (st .args .buffer) in
-    let x = c .before .before .before .before .before .before .before .before .before .before .before .before .before .read-entry .ensures in
-    let z : readEntry e .refusal ≡ 0 = ap (λ (y : Entry). y .refusal) (sym x) ∙ c .before .before .before .before .before .before .before .before .before .before .before .if1 .left in
-    let p : s .planned ≡ true = not-false _ (c .before .before .before .before .before .before .before .if3 .left) in
-    let k = c .before .before .before .before .before .before .before .before .before .before .before .before .before .read-entry .result .kind in
-    let low : 2 ≤ k = omega (arith, c .before .before .before .before .before .if4 .left, c .before .before .before .before .before .before .match .rest .0 .1) in
-    let high : k ≤ 5 = omega (arith, c .before .before .before .before .if5 .taken) in
-    step-gives s e b (line-step s e (readEntry e) z p (length b) k (ap (λ (y : Entry). y .kind) (sym x)) (two-to-five k low high))
-    (gives-as (ap (λ (y : Entry). lineOutcome s y (length b)) x) (c .before .before .line .ensures))
-
-same-length-5 : tie.Need-same-length-5
-same-length-5 c = search needs
-
-returns-7 : tie.Need-returns-7
-returns-7 c =
-    let st = c .before .before .before .before .before .before .before .before .before .before .before .before .before .before .before in
-    let s = st .args .set in
-    let e = now (st .args .entry) in
-    let b = now (st .args .buffer) in
-    let x = c .before .before .before .before .before .before .before .before .before .before .before .before .read-entry .ensures in
-    let z : readEntry e .refusal ≡ 0 = ap (λ (y : Entry). y .refusal) (sym x) ∙ c .before .before .before .before .before .before .before .before .before .before .if1 .left in
-    let p : s .planned ≡ true = not-false _ (c .before .before .before .before .before .before .if3 .left) in
-    let k = c .before .before .before .before .before .before .before .before .before .before .before .before .read-entry .result .kind in
-    let far : (k < 1) ⊎ (6 ≤ k) = elim (c .before .before .before .before .if4 .came) [ inl a ↦ inl (a .taken) | inr a ↦ inr (a .1 .left) ] in
-    let not : (j : ℕ) → (k ≡ j → ⊥) → eqb (readEntry e .kind) j ≡ false = λ j h. ne-eqb _ j (λ w. h (ap (λ (y : Entry). y .kind) x ∙ w)) in
-    let out : (j : ℕ) → 2 ≤ j → j ≤ 5 → eqb (readEntry e .kind) j ≡ false = λ j l h. not j (outside k j far l h) in
-    step-gives s e b
-    (handover-step s e (readEntry e) z p (length b) (not 1 (c .before .before .before .before .before .match .rest .0 .1)) (out 2 (omega arith) (omega arith)) (out 3 (omega arith) (omega arith)) (out 4 (omega arith) (omega arith)) (out 5 (omega arith) (omega arith))
-    (not 6 (c .before .before .before .before .before .match .rest .1)) (not 7 (c .before .before .before .before .before .before .before .before .if2 .left)))
-    (c .before .before .hand-over .ensures)
+returns-4 : tie.Need-returns-4 Inv-loop μ-loop
+returns-4 c =
+    let st = c .before .before .before .before .before .before .before .before .before .before .before .before .before .before .before .before .before .before .before .before .before .before in
+    let s = st .args .t1 in
+    let l = c .before .before .before .before .before .before .before .before .before .loop in
+    let n : length (s .channels) ≡ 32 = sym (length-map (s .channels) _) ∙ (st .good .0 .1 .1 .0 .1 .0 .1) in
+    let e = c .before .before .before .before .before .before .before .before .before .before .count-of .ensures .0 ∙ count-is (s .channels) (s .size .channels) n in
+    let cs = channelsOf s in
+    let code = c .before .before .before .before .before .before .before .before .before .before .before .request-of .result .channel in
+    let far : l .end ≤ l .i = c .before .before .before .before .before .before .before .before .loop-test .left in
+    let place : l .i ≡ placeOf code cs = elim (l .inv .3) [
+      | inl a ↦ sought-last code cs (l .i) (omega (arith, e, a, far)) (l .inv .0)
+      | inr a ↦ omega (arith, a, far, l .inv .1)
+    ] in
+    let below : c .before .before .before .before .before .before .before .place-below .result < length (s .channels) = omega (arith, n, c .before .before .before .before .before .before .before .place-below .ensures .1) in
+    finished s (now (st .args .entry)) (now (st .args .buffer)) (c .before .before .before .before .before .before .before .before .before .before .before .before .before .before .before .before .before .before .before .read-entry .result) (c .before .before .before .before .before .before .before .before .before .before .before .request-of .result) (c .before .before .before .before .before .before .before .before .before .before .count-of .result) (l .i) (c .before .before .before .before .before .before .before .place-below .result) _
+    (c .before .before .before .before .before .before .before .before .before .before .before .before .before .before .before .before .before .before .before .read-entry .ensures) (c .before .before .before .before .before .before .before .before .before .before .before .request-of .ensures) e place (c .before .before .before .before .before .before .before .place-below .ensures .0) (any-default (s .channels) (c .before .before .before .before .before .before .before .place-below .result) noChannel _ below)
+    (c .before .before .before .before .before .before .before .before .before .before .before .before .before .before .before .before .before .if1 .left) (c .before .before .before .before .before .before .before .before .before .before .before .before .before .before .before .if2 .left) (c .before .before .before .before .before .before .before .before .before .before .before .before .before .if3 .left) (c .before .before .before .before .change-of .ensures)
 
 pub step-spec : {M : Type 1} → statement M
 step-spec =
     tie.close
     (tie.spec
+    Inv-loop
+    μ-loop
     read-entry-requires
-    refuse-requires
-    returns
     sub-plan
     part-plan-start
     part-plan-end
     plan-requires
     same-length
-    returns-2
-    refuse-requires-2
-    returns-3
-    sub-telegram
-    part-telegram-start
-    part-telegram-end
-    telegram-requires
+    returns
     tick-requires
-    line-requires
-    hand-over-requires
     same-length-2
-    returns-4
+    returns-2
+    hand-over-requires
     same-length-3
-    returns-5
+    returns-3
+    request-of-requires
+    count-of-requires
+    loop-holds
+    mul-c
+    element-copy-out-c
+    cast-if4
+    loop-less
+    loop-again
+    add-i
+    loop-less-2
+    loop-again-2
+    place-below-requires
+    mul-c-2
+    element-copy-out-c-2
+    change-of-requires
+    mul-channel
+    element-set-from-channel
     same-length-4
-    returns-6
-    same-length-5
-    returns-7)
+    returns-4)

@@ -6,7 +6,6 @@ use native.Mathlib.Omega.{arith}
 use lib.ListN.{length}
 use denote.Ref.{now}
 use Rattle.set_rules.specs.declared.state.LineSet.{LineSet}
-use Rattle.set_rules.specs.declared.state.Answer.{Answer}
 use mathlib.Core.Bool.{true, false}
 use mathlib.Core.List.{[], _∷_}
 use Prim.Native.Nat.{_-_, _^_}
@@ -19,13 +18,10 @@ use Rattle.set_rules.specs.Records.{recordsOf, spaceOf}
 use Rattle.set_rules.specs.SetRules.{onPlan}
 use Rattle.set_rules.proofs.Answers.{space-length}
 use Rattle.line_set.proofs.Asking.{plan-present, plan-bad, plan-good, plan-ok, plan-set, desks-few}
-use Rattle.line_set.proofs.Emission.{refused, gives-as, no-room, emitted}
+use Rattle.line_set.proofs.Emission.{accepted, refused, gives-as, no-room, emitted}
 use borrow.Author.Needs.{needs}
 use Rattle.line_set.proofs.plan.plan.Statement.{statement}
 use Rattle.line_set.proofs.plan.plan.Tie as tie
-
-abbrev answer : LineSet → ℕ → Answer
-answer t n = record { set = t; count = n; refusal = 0 }
 
 refuse-requires : tie.Need-refuse-requires
 refuse-requires c κs = search needs
@@ -102,7 +98,7 @@ returns-4 c =
     gives-as (plan-good s p (length b) (c .before .before .before .before .before .before .before .before .before .before .before .before .if1 .left) ok)
     (emitted s (onPlan p) b (omega (arith, total, c .before .before .before .before .if3 .left)) (λ k. refl, tt)
     (c .before .before .put-to .ensures .1 ∙ ap₂ (λ (k : ℕ) (x : LineSet). written b 0 (recordsOf (x .desks) (delivery k TimeRequest ∷ []))) m t)
-    (ap₂ (λ (x : LineSet) (n : ℕ). answer x n) t total))
+    (ap₂ (λ (x : LineSet) (n : ℕ). accepted x n) t total))
 
 pub plan-spec : {M : Type 1} → statement M
 plan-spec =
