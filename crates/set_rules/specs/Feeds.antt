@@ -10,6 +10,7 @@ use Rattle.set_rules.specs.Records.{recordsOf, spaceOf}
 use Rattle.set_rules.specs.SetRules.{Effect, accepted}
 use Rattle.set_rules.specs.declared.state.LineSet.{LineSet}
 use Rattle.set_rules.specs.declared.state.Answer.{Answer}
+use Rattle.set_rules.specs.declared.state.Reply.{Reply}
 
 -- "The answer is the refusal number (0 if accepted), the byte count written, and the set after"; and the bytes written
 pub record Outcome : Type 0 where
@@ -20,6 +21,10 @@ pub record Outcome : Type 0 where
 
 abbrev pub answerOf : Outcome → Answer
 answerOf o = record { set = o .after; count = o .count; refusal = o .refusal }
+
+-- the same where the set is lent: the set after is where the set lay
+abbrev pub replyOf : Outcome → Reply
+replyOf o = record { count = o .count; refusal = o .refusal }
 
 -- "Each refusal returns count 0 and leaves set and buffer untouched."
 abbrev pub refuse : ℕ → LineSet → Outcome

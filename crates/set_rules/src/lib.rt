@@ -6,4 +6,5 @@ pub use state::Desk;
 pub use state::Entry;
 pub use state::LineSet;
 pub use state::Link;
+pub use state::Reply;
 pub use state::Size;

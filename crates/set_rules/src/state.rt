@@ -93,3 +93,9 @@ pub struct Answer {
     pub count: usize,
     pub refusal: u8,
 }
+
+// What an entry is answered with where the set is lent: the bytes written, and the refusal number.
+pub struct Reply {
+    pub count: usize,
+    pub refusal: u8,
+}
