@@ -1,12 +1,12 @@
--- `replay::move_to_front` is safe: it reads and writes before `to`.
+-- `replay::reading::move_to_front` is safe: it reads and writes before `to`.
 -- Assumes nothing.
 use borrow.Author.Needs.{needs}
 use Prim.Native.Nat.{_≤_, _-_}
 use mathlib.Core.Path.{_≡_, refl}
 use native.Mathlib.Omega.{arith}
 use lib.ListN.{length, length-set}
-use Rattle.replay.proofs.move_to_front.Statement.{statement}
-use Rattle.replay.proofs.move_to_front.Tie as tie
+use Rattle.replay.proofs.reading.move_to_front.Statement.{statement}
+use Rattle.replay.proofs.reading.move_to_front.Tie as tie
 
 abbrev Inv-loop : tie.InvT-loop
 Inv-loop input₀ from to i₀ input i = (from ≤ i) × (length input ≡ length input₀)
