@@ -7,7 +7,7 @@ use borrow.Author.Tests.{lt-ltb}
 use native.Mathlib.Nat.{pow-le-pow-right, pow-succ', one-mul, div-one, mod-eq-of-lt, div-eq-of-lt, div-div-eq-div-mul}
 use native.Mathlib.Omega.{arith}
 use lib.Dec.{eqb}
-use Rattle.channel.specs.Rules.{only, isIn}
+use Rattle.channel.specs.State.{only, isIn}
 
 pub only-bit : (d : ℕ) → d < 8 → 1 * 2 ^ d % 256 ≡ only d
 only-bit d h =

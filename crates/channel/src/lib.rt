@@ -1,16 +1,12 @@
 // One channel: its state, what happens on it, and what it sends.
-mod rules;
+mod queries;
 mod state;
 
-pub use rules::falls;
-pub use rules::happens;
-pub use rules::held_by;
-pub use rules::holder_place;
-pub use rules::is_in;
-pub use rules::is_present;
-pub use rules::only;
-pub use rules::sends_any;
-pub use rules::ticked;
+pub use queries::held_by;
+pub use queries::holder_place;
+pub use queries::is_in;
+pub use queries::is_present;
+pub use queries::only;
 pub use state::Arrival;
 pub use state::Call;
 pub use state::Channel;

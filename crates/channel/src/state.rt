@@ -1,7 +1,7 @@
 // The state of a channel, its events, and what it sends. Sets of desks are masks: bit 0 is desk 0.
 use telegram::Number;
 ghost use mathlib.Core.Path.{_≡_};
-ghost use Rattle.channel.specs.Rules.{freeChannel};
+ghost use Rattle.channel.specs.State.{freeChannel};
 
 // The desk that has captured the channel, by its place in the plan.
 pub enum Holder {

@@ -12,7 +12,7 @@ use lib.Dec.{leb}
 use borrow.Author.Tests.{leb-true}
 use Rattle.fields.specs.Fields.{between}
 use Rattle.fields.proofs.DigitLaws.{both}
-use Rattle.channel.specs.Rules.{freeChannel}
+use Rattle.channel.specs.State.{freeChannel}
 use Rattle.set_rules.specs.Plan.{deskOk, desksOk, desksIn, channelsOk, channelsIn}
 use Rattle.entries.specs.Planned.{deskOf}
 

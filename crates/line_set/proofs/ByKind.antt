@@ -13,7 +13,7 @@ use Rattle.telegram.specs.declared.message.Message.{Message}
 use Rattle.telegram.specs.declared.message.Message.the-variants.{TimeNotice, OperationAnswer, TimeRequest, BaseArrival, OperationRequest, Call, CallerNotice, CaptureRequest, CaptureReply, CaptureState}
 use Rattle.telegram.specs.declared.message.Reading.{Reading}
 use Rattle.telegram.specs.declared.message.Reading.the-variants.{Telegram, Refused}
-use Rattle.channel.specs.Rules.{heldBy, isPresent}
+use Rattle.channel.specs.State.{heldBy, isPresent}
 use Rattle.set_rules.specs.State.{hasDesk, deskAt, hasChannel, channelAt}
 use Rattle.set_rules.specs.Entries.{readEntry, telegramIn, planIn}
 use Rattle.set_rules.specs.Plan.{planOk}

@@ -11,7 +11,7 @@ use lib.Dec.{eqb, ltb}
 use lib.ListN.{length, take, drop, getD, drop-of-length-le}
 use lib.Seq.{drop-cons, length-take-le, take-all}
 use borrow.Author.Tests.{ltb-true, ltb-false, lt-ltb}
-use Rattle.channel.specs.Rules.{isIn}
+use Rattle.channel.specs.State.{isIn}
 use Rattle.channel.specs.declared.state.Channel.{Channel}
 use Rattle.set_rules.specs.State.{isRunning, runningFrom, placeOf}
 use Rattle.set_rules.specs.declared.state.Desk.{Desk}

@@ -10,11 +10,12 @@ use native.Mathlib.Omega.{arith}
 use lib.ListN.{length, take, drop, getD, set, drop-of-length-le}
 use lib.Seq.{drop-cons, take-suc, set-at, getD-at, set-getD, length-take-le}
 use borrow.Author.Tests.{eqb-true}
-use Rattle.channel.specs.Rules.{Context, Step, holderPlace, tick, happens}
+use Rattle.channel.specs.State.{holderPlace}
+use Rattle.line_rules.specs.Rules.{Context, Step, tick, happens}
 use Rattle.channel.specs.declared.state.Channel.{Channel}
-use Rattle.channel.specs.Scripts.{any, falling, tickBy}
+use Rattle.line_rules.specs.Scripts.{any, falling, tickBy}
 use Rattle.channel.specs.declared.state.Falling.{Falling}
-use Rattle.channel.proofs.Ticks.{tick-falling}
+use Rattle.line_rules.proofs.Ticks.{tick-falling}
 use Rattle.channel.specs.declared.state.Event.{Event}
 use Rattle.channel.specs.declared.state.Event.the-variants.{Tick}
 use Rattle.records.proofs.Writing.{Split}

@@ -8,7 +8,8 @@ use lib.Dec.{eqb, ltb, leb}
 use lib.ListN.{getD, set}
 use Rattle.telegram.specs.Telegram.{over}
 use Rattle.telegram.specs.declared.message.Message.the-variants.{OperationRequest}
-use Rattle.channel.specs.Rules.{only, holderPlace, happens}
+use Rattle.channel.specs.State.{only, holderPlace}
+use Rattle.line_rules.specs.Rules.{happens}
 use Rattle.channel.specs.declared.state.Channel.{Channel}
 use Rattle.channel.specs.declared.state.Event.{Event}
 use Rattle.channel.specs.declared.state.Event.the-variants.{Capture, Release}

@@ -2,7 +2,7 @@
 use Prim.Native.Nat.{ℕ}
 use mathlib.Core.Bool.{Bool, _&&_, _||_, cond}
 use lib.Dec.{eqb}
-use Rattle.channel.specs.Rules.{isIn, heldBy, isPresent}
+use Rattle.channel.specs.State.{isIn, heldBy, isPresent}
 use Rattle.channel.specs.declared.state.Channel.{Channel}
 use Rattle.set_rules.specs.State.{hasDesk, deskAt, hasChannel, channelAt}
 use Rattle.set_rules.specs.Refusals.{isKind, isCaller, phaseOf}

@@ -6,7 +6,8 @@ use mathlib.Core.Path.{_≡_}
 use lib.Dec.{eqb}
 use lib.ListN.{take, getD, set}
 use Rattle.telegram.specs.Telegram.{over}
-use Rattle.channel.specs.Rules.{Context, holderPlace, happens}
+use Rattle.channel.specs.State.{holderPlace}
+use Rattle.line_rules.specs.Rules.{Context, happens}
 use Rattle.channel.specs.declared.state.Channel.{Channel}
 use Rattle.channel.specs.declared.state.Send.{Send}
 use Rattle.channel.specs.declared.state.Event.{Event}

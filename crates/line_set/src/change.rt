@@ -15,8 +15,8 @@ ghost use mathlib.Core.Path.{_≡_};
 ghost use mathlib.Core.Bool.{cond};
 ghost use lib.Dec.{eqb};
 ghost use lib.ListN.{length};
-ghost use Rattle.channel.specs.Rules.{happens};
-ghost use Rattle.channel.specs.Scripts.{heard};
+ghost use Rattle.line_rules.specs.Rules.{happens};
+ghost use Rattle.line_rules.specs.Scripts.{heard};
 ghost use Rattle.set_rules.specs.SetRules.{numberIn};
 ghost use Rattle.line_set.specs.Steps.{contextIn, eventOf};
 ghost use Rattle.line_set.specs.Changes.{Makes, unchanged, emitIn, onOne, timeIn, answerIn, lineIn, requestOn, changeIn};
@@ -47,7 +47,7 @@ pub fn moved(desks: [Desk; 4], n: u8, d: u8, event: Event, c: Channel) -> Moved
     let listeners = lookup::listeners(desks, n, c.entitled);
     let desk = lookup::desk_at(desks, d);
     let own = desk.number;
-    channel::happens(event, listeners, own, c)
+    line_rules::happens(event, listeners, own, c)
 }
 
 // An event on the channel, and its records if there is room.

@@ -12,7 +12,7 @@ use lib.ListN.{getD}
 use borrow.Author.Tests.{eq-eqb, ne-eqb}
 use Rattle.telegram.specs.Telegram.{sizeOf}
 use Rattle.telegram.proofs.SizeLaws.{length-telegram}
-use Rattle.channel.specs.Notices.{Content, telegram, contact, contentFor}
+use Rattle.line_rules.specs.Notices.{Content, telegram, contact, contentFor}
 use Rattle.channel.specs.declared.state.Notice.{Notice}
 use Rattle.channel.specs.declared.state.Notice.the-variants.{PressAnswer, Incoming, BaseArrival, Call, CallerNotice, CaptureReply, CaptureState}
 use Rattle.set_rules.specs.State.{noDesk}

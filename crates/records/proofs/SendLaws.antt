@@ -8,7 +8,7 @@ use native.Mathlib.Omega.{arith}
 use lib.Count.{onesIn}
 use lib.ListN.{length, drop, getD, drop-of-length-le}
 use lib.Seq.{drop-cons}
-use Rattle.channel.specs.Notices.{contentFor}
+use Rattle.line_rules.specs.Notices.{contentFor}
 use Rattle.channel.specs.declared.state.Send.{Send}
 use Rattle.set_rules.specs.Records.{Delivery, delivered, recordSize, recordsOf, spaceOf, toEach}
 use Rattle.set_rules.specs.declared.state.Desk.{Desk}

@@ -6,7 +6,7 @@ use lib.Dec.{eqb}
 use lib.Seq.{sets}
 use Rattle.telegram.specs.Telegram.{telegramOf}
 use Rattle.telegram.specs.declared.message.Message.the-variants.{TimeRequest as AskTime, OperationRequest as AskOperation}
-use Rattle.channel.specs.Notices.{Content, telegram, contact, contentFor}
+use Rattle.line_rules.specs.Notices.{Content, telegram, contact, contentFor}
 use Rattle.channel.specs.declared.state.Send.{Send}
 use Rattle.set_rules.specs.Records.{Delivery, recordFor}
 use Rattle.set_rules.specs.declared.state.Desk.{Desk}

@@ -14,7 +14,7 @@ ghost use Prim.Native.Nat.{_≤_};
 ghost use lib.Dec.{eqb};
 ghost use lib.ListN.{length};
 ghost use Rattle.telegram.specs.Telegram.{num};
-ghost use Rattle.channel.specs.Notices.{contentFor};
+ghost use Rattle.line_rules.specs.Notices.{contentFor};
 ghost use Rattle.records.specs.Emitting.{written, bodyFor, kindOf, restBytes};
 
 // 1 for a telegram, 2 for a contact.

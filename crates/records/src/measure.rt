@@ -6,7 +6,7 @@ ghost use mathlib.Core.Path.{_≡_};
 ghost use mathlib.Core.List.{[], _∷_};
 ghost use Prim.Native.Nat.{ℕ, _*_, _≤_};
 ghost use lib.Count.{onesIn};
-ghost use Rattle.channel.specs.Notices.{contentFor};
+ghost use Rattle.line_rules.specs.Notices.{contentFor};
 ghost use Rattle.set_rules.specs.Records.{recordSize, delivered, spaceOf};
 ghost use Rattle.records.specs.Emitting.{bodyFor, delivery};
 

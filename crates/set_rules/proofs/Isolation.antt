@@ -15,8 +15,9 @@ use Rattle.fields.specs.declared.digits.Digits.the-variants.{Value, Malformed}
 use Rattle.telegram.specs.Telegram.{num, rowOf, valuesOf, nth, readTelegram}
 use Rattle.telegram.specs.declared.message.Reading.{Reading}
 use Rattle.telegram.specs.declared.message.Reading.the-variants.{Telegram, Refused}
-use Rattle.channel.specs.Rules.{Context, Step, isIn, only, holderPlace, happens, mobileRecipients}
-use Rattle.channel.specs.Notices.{contentFor}
+use Rattle.channel.specs.State.{isIn, only, holderPlace}
+use Rattle.line_rules.specs.Rules.{Context, Step, happens, mobileRecipients}
+use Rattle.line_rules.specs.Notices.{contentFor}
 use Rattle.channel.specs.declared.state.Holder.{Holder}
 use Rattle.channel.specs.declared.state.Holder.the-variants.{Nobody, Held}
 use Rattle.channel.specs.declared.state.Channel.{Channel}
@@ -25,7 +26,7 @@ use Rattle.channel.specs.declared.state.Event.the-variants.{Capture, Release, C
 use Rattle.channel.specs.declared.state.Notice.{Notice}
 use Rattle.channel.specs.declared.state.Notice.the-variants.{PressAnswer, Incoming, BaseArrival, Call, CallerNotice, CaptureReply, CaptureState}
 use Rattle.channel.specs.declared.state.Send.{Send}
-use Rattle.channel.proofs.Veil.{none-in, veil, hide, hide-twice, hideNotice, hideSend, hideSends, hideStep, present-hide, happens-hide, number-hidden}
+use Rattle.line_rules.proofs.Veil.{none-in, veil, hide, hide-twice, hideNotice, hideSend, hideSends, hideStep, present-hide, happens-hide, number-hidden}
 use Rattle.set_rules.specs.State.{newSet, noChannel, deskAt, channelsOf, placeOf, placeIn, channelAt, hasChannel, listenersOf, withChannels}
 use Rattle.set_rules.specs.Entries.{readEntry, asks, bad, telegramIn, planIn}
 use Rattle.set_rules.specs.Refusals.{firstOf, refusalOf, table}

@@ -6,7 +6,8 @@ use Rattle.fields.specs.Digits.{digitsOf, allDigits, valueFrom}
 use Rattle.fields.specs.Fields.{bodyOk, valuesIn, bytesOf}
 use Rattle.telegram.specs.Telegram.{headerOk, readTelegram, telegramOf}
 use Rattle.telegram.specs.Promises.{spelled}
-use Rattle.channel.specs.Rules.{isIn, capture, handover, happens}
+use Rattle.channel.specs.State.{isIn}
+use Rattle.line_rules.specs.Rules.{capture, handover, happens}
 use Rattle.set_rules.specs.State.{placeOf, runningFrom}
 use Rattle.set_rules.specs.Entries.{readEntry}
 use Rattle.set_rules.specs.Plan.{desksOk, desksIn, hasNumber, distinct, channelsOk, channelsIn, planOk, setOf}

@@ -20,8 +20,9 @@ use Rattle.telegram.specs.declared.message.Message.the-variants.{TimeRequest, O
 use Rattle.telegram.specs.declared.message.Reading.{Reading}
 use Rattle.telegram.specs.declared.message.Reading.the-variants.{Telegram, Refused}
 use Rattle.telegram.proofs.RoundTrip.{reads-back}
-use Rattle.channel.specs.Rules.{Step, only, holderPlace, happens}
-use Rattle.channel.specs.Notices.{Content, telegram, contact, contentFor}
+use Rattle.channel.specs.State.{only, holderPlace}
+use Rattle.line_rules.specs.Rules.{Step, happens}
+use Rattle.line_rules.specs.Notices.{Content, telegram, contact, contentFor}
 use Rattle.channel.specs.declared.state.Channel.{Channel}
 use Rattle.channel.specs.declared.state.Event.{Event}
 use Rattle.channel.specs.declared.state.Event.the-variants.{Capture, Release, Cut, PressOn, PressOff, MobileOn, MobileOff, Tick, Handover}

@@ -8,7 +8,8 @@ use native.Mathlib.Omega.{arith}
 use lib.Dec.{eqb, leb, ltb}
 use lib.ListN.{length, replicate, take, drop, set}
 use borrow.Author.Tests.{eqb-true, eq-eqb, ltb-true}
-use Rattle.channel.specs.Rules.{Context, isIn, Step, to, happens, pressOff, tick, tickIdle, tickQuiet, tickRelease, quietTime, releaseTime, endOf, freedSends, holderPlace}
+use Rattle.channel.specs.State.{isIn, holderPlace}
+use Rattle.line_rules.specs.Rules.{Context, Step, to, happens, pressOff, tick, tickIdle, tickQuiet, tickRelease, quietTime, releaseTime, endOf, freedSends}
 use Rattle.channel.specs.declared.state.Holder.the-variants.{Held}
 use Rattle.channel.specs.declared.state.Call.{Call}
 use Rattle.channel.specs.declared.state.Arrival.the-variants.{Absent}

@@ -7,7 +7,7 @@ use lib.ListN.{length, take, drop, replicate}
 use Rattle.fields.specs.Digits.{allDigits, valueOf}
 use Rattle.fields.specs.Fields.{between}
 use Rattle.telegram.specs.Telegram.{num}
-use Rattle.channel.specs.Rules.{freeChannel}
+use Rattle.channel.specs.State.{freeChannel}
 use Rattle.channel.specs.declared.state.Channel.{Channel}
 use Rattle.set_rules.specs.State.{newLink, noDesk, noChannel}
 use Rattle.set_rules.specs.Entries.{byte, word}

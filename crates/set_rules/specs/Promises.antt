@@ -10,8 +10,8 @@ use Rattle.telegram.specs.Telegram.{readTelegram, telegramOf}
 use Rattle.telegram.specs.Promises.{dv, Marked as ReaderMarked}
 use Rattle.telegram.specs.declared.message.Message.{Message}
 use Rattle.telegram.specs.declared.message.Reading.the-variants.{Telegram}
-use Rattle.channel.specs.Notices.{telegram}
-use Rattle.channel.specs.Rules.{endOf, freedSends}
+use Rattle.line_rules.specs.Notices.{telegram}
+use Rattle.line_rules.specs.Rules.{endOf, freedSends}
 use Rattle.channel.specs.declared.state.Arrival.the-variants.{Absent}
 use Rattle.channel.specs.declared.state.Channel.{Channel}
 use Rattle.channel.specs.declared.state.Holder.{Holder}

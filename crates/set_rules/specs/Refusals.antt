@@ -8,7 +8,7 @@ use Rattle.fields.specs.declared.digits.Digits.the-variants.{Value, Malformed}
 use Rattle.telegram.specs.Telegram.{readTelegram, rowOf, valuesOf, nth}
 use Rattle.telegram.specs.declared.message.Reading.{Reading}
 use Rattle.telegram.specs.declared.message.Reading.the-variants.{Telegram as Read, Refused}
-use Rattle.channel.specs.Rules.{isIn, heldBy, isPresent}
+use Rattle.channel.specs.State.{isIn, heldBy, isPresent}
 use Rattle.set_rules.specs.State.{hasDesk, deskAt, hasChannel, channelAt}
 use Rattle.set_rules.specs.Entries.{telegramIn, planIn}
 use Rattle.set_rules.specs.Plan.{planOk}

@@ -12,8 +12,9 @@ use Rattle.telegram.specs.declared.message.Message.{Message}
 use Rattle.telegram.specs.declared.message.Message.the-variants.{TimeRequest, OperationRequest}
 use Rattle.telegram.specs.declared.message.Reading.{Reading}
 use Rattle.telegram.specs.declared.message.Reading.the-variants.{Telegram, Refused}
-use Rattle.channel.specs.Rules.{Context, Step, only, holderPlace, happens}
-use Rattle.channel.specs.Notices.{telegram}
+use Rattle.channel.specs.State.{only, holderPlace}
+use Rattle.line_rules.specs.Rules.{Context, Step, happens}
+use Rattle.line_rules.specs.Notices.{telegram}
 use Rattle.channel.specs.declared.state.Channel.{Channel}
 use Rattle.channel.specs.declared.state.Event.{Event}
 use Rattle.channel.specs.declared.state.Event.the-variants.{Capture, Release, Cut, PressOn, PressOff, MobileOn, MobileOff, Tick, Handover}

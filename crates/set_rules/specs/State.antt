@@ -5,7 +5,7 @@ use mathlib.Core.Bool.{Bool, true, false, _&&_, cond}
 use lib.Dec.{eqb, ltb, leb}
 use lib.ListN.{length, take, drop, getD, replicate, set}
 use Rattle.telegram.specs.Telegram.{num}
-use Rattle.channel.specs.Rules.{freeChannel, only, isIn}
+use Rattle.channel.specs.State.{freeChannel, only, isIn}
 use Rattle.channel.specs.declared.state.Channel.{Channel}
 use Rattle.set_rules.specs.declared.state.Link.{Link}
 use Rattle.set_rules.specs.declared.state.Desk.{Desk}

@@ -7,8 +7,9 @@ use native.Mathlib.Omega.{arith}
 use lib.ListN.{length}
 use denote.Ref.{now}
 use borrow.Author.Tests.{not-true}
-use Rattle.channel.specs.Rules.{holderPlace, happens}
-use Rattle.channel.specs.Scripts.{heard}
+use Rattle.channel.specs.State.{holderPlace}
+use Rattle.line_rules.specs.Rules.{happens}
+use Rattle.line_rules.specs.Scripts.{heard}
 use Rattle.records.specs.Emitting.{written}
 use Rattle.records.proofs.Writing.{written-none}
 use Rattle.set_rules.specs.Records.{delivered, recordsOf}

@@ -4,8 +4,9 @@ use Prim.Native.Nat.{ℕ}
 use mathlib.Core.Path.{refl, sym, ap, _∙_}
 use native.Mathlib.Omega.{arith}
 use borrow.Author.Tests.{not-true}
-use Rattle.channel.specs.Rules.{holderPlace, happens}
-use Rattle.channel.specs.Scripts.{heard}
+use Rattle.channel.specs.State.{holderPlace}
+use Rattle.line_rules.specs.Rules.{happens}
+use Rattle.line_rules.specs.Scripts.{heard}
 use Rattle.set_rules.specs.Records.{delivered, spaceOf}
 use Rattle.line_set.specs.Steps.{contextIn, sendsIn}
 use Rattle.line_set.proofs.Emission.{same-space, nothing-sent}

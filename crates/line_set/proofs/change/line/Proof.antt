@@ -6,7 +6,7 @@ use mathlib.Core.Path.{_≡_, sym, ap, ap₂, _∙_}
 use lib.Dec.{ltb}
 use lib.ListN.{length}
 use denote.Ref.{now}
-use Rattle.channel.specs.Rules.{holderPlace}
+use Rattle.channel.specs.State.{holderPlace}
 use Rattle.channel.specs.declared.state.Event.{Event}
 use Rattle.set_rules.specs.Refusals.{isKind}
 use Rattle.set_rules.specs.declared.state.Desk.{Desk}

@@ -2,8 +2,8 @@
 -- Assumes nothing.
 use mathlib.Core.Path.{_≡_, ap, ap₂, _∙_}
 use Prim.Native.Nat.{ℕ}
-use Rattle.channel.specs.Rules.{Context, happens}
-use Rattle.channel.specs.Scripts.{heard, context}
+use Rattle.line_rules.specs.Rules.{Context, happens}
+use Rattle.line_rules.specs.Scripts.{heard, context}
 use Rattle.set_rules.specs.declared.state.Desk.{Desk}
 use Rattle.line_set.specs.Steps.{contextIn}
 use borrow.Author.Needs.{needs}

@@ -5,7 +5,7 @@ use mathlib.Core.List.{List, [], _∷_}
 use mathlib.Core.Path.{_≡_, refl, ap, ap₂, _∙_}
 use native.Mathlib.Omega.{arith}
 use denote.Ref.{now}
-use Rattle.channel.specs.Rules.{only}
+use Rattle.channel.specs.State.{only}
 use Rattle.records.specs.Emitting.{written, delivery}
 use Rattle.records.specs.declared.body.Body.the-variants.{OperationRequest}
 use Rattle.set_rules.specs.State.{timeTold}

@@ -6,7 +6,7 @@ use mathlib.Core.Path.{_≡_, _∙_, sym, refl}
 use native.Mathlib.Omega.{arith}
 use denote.Ref.{now}
 use lib.ListN.{length, length-take, length-drop}
-use Rattle.channel.specs.Notices.{Content}
+use Rattle.line_rules.specs.Notices.{Content}
 use Rattle.set_rules.specs.Records.{recordFor, recordSize}
 use Rattle.set_rules.proofs.Answers.{record-length}
 use Rattle.records.specs.Emitting.{bodyFor, restBytes}

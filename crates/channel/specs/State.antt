@@ -1,0 +1,36 @@
+-- What 01's line rules ask of the state of one channel, and a channel on which nothing goes on.
+use Prim.Native.Nat.{ℕ, zero, suc, _/_, _%_, _^_}
+use mathlib.Core.Bool.{Bool, true, false, cond}
+use lib.Dec.{ltb, eqb}
+use Rattle.channel.specs.declared.state.Holder.{Holder}
+use Rattle.channel.specs.declared.state.Holder.the-variants.{Nobody, Held}
+use Rattle.channel.specs.declared.state.Call.the-variants.{Closed}
+use Rattle.channel.specs.declared.state.Arrival.{Arrival}
+use Rattle.channel.specs.declared.state.Arrival.the-variants.{Absent, Present}
+use Rattle.channel.specs.declared.state.Channel.{Channel}
+
+-- the set of one desk; a set has eight places
+abbrev pub only : ℕ → ℕ
+only d = cond (ltb d 8) (2 ^ d) 0
+
+-- a desk is in a set
+unfoldable pub isIn : ℕ → ℕ → Bool
+isIn zero m = eqb (m % 2) 1
+isIn (suc d) m = isIn d (m / 2)
+
+abbrev pub freeChannel : ℕ → ℕ → Channel
+freeChannel k m =
+    record { code = k; entitled = m; holder = Nobody; pressed = false; call = Closed; arrival = Absent; quiet = 0; release = 0 }
+
+abbrev pub heldBy : ℕ → Holder → Bool
+heldBy d Nobody = false
+heldBy d (Held h) = eqb h d
+
+-- the holder, as a place
+abbrev pub holderPlace : Holder → ℕ
+holderPlace Nobody = 0
+holderPlace (Held d) = d
+
+abbrev pub isPresent : Arrival → Bool
+isPresent Absent = false
+isPresent (Present k b n m) = true

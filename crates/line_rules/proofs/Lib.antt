@@ -1,0 +1,4 @@
+pub mod Veil
+pub mod Traps
+pub mod Scripts
+pub mod Ticks
