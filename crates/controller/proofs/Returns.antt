@@ -1,0 +1,45 @@
+-- The numbers that a set is kept as are that set, and a refused entry leaves them.
+-- Assumes nothing.
+use mathlib.Core.Bool.{Bool, true, false}
+use mathlib.Core.Path.{_≡_, refl, ap, _∙_}
+use lib.Dec.{eqb}
+use Rattle.channel.specs.declared.state.Holder.{Holder}
+use Rattle.channel.specs.declared.state.Holder.the-variants.{Nobody, Held}
+use Rattle.channel.specs.declared.state.Call.{Call}
+use Rattle.channel.specs.declared.state.Call.the-variants.{Closed, Open}
+use Rattle.channel.specs.declared.state.Arrival.{Arrival}
+use Rattle.channel.specs.declared.state.Arrival.the-variants.{Absent, Present}
+use Rattle.channel.specs.declared.state.Channel.{Channel}
+use Rattle.set_rules.specs.declared.state.Desk.{Desk}
+use Rattle.controller.specs.Plain.{holderIn, callIn, arrivalIn, channelIn, deskIn, setIn, flagOf, holderOf, callOf, arrivalOf, channelOf, deskOf, plainOf}
+use Rattle.set_rules.proofs.Answers.{refused}
+use Rattle.controller.specs.Promises.{Returns, Untouched}
+use Rattle.controller.proofs.Maps.{map-back}
+
+flag-back : (b : Bool) → eqb (flagOf b) 1 ≡ b
+flag-back true = refl
+flag-back false = refl
+
+holder-back : (h : Holder) → holderIn (holderOf h) ≡ h
+holder-back Nobody = refl
+holder-back (Held d) = refl
+
+call-back : (c : Call) → callIn (callOf c) ≡ c
+call-back Closed = refl
+call-back (Open kind direction base source recipients) = refl
+
+arrival-back : (a : Arrival) → arrivalIn (arrivalOf a) ≡ a
+arrival-back Absent = refl
+arrival-back (Present kind base number recipients) = refl
+
+channel-back : (c : Channel) → channelIn (channelOf c) ≡ c
+channel-back c = simp (holder-back (c .holder), flag-back (c .pressed), call-back (c .call), arrival-back (c .arrival)) refl
+
+desk-back : (d : Desk) → deskIn (deskOf d) ≡ d
+desk-back d = refl
+
+pub returns : Returns
+returns s = simp (map-back channelOf channelIn channel-back (s .channels), map-back deskOf deskIn desk-back (s .desks), flag-back (s .planned)) refl
+
+pub untouched : Untouched
+untouched s e room h = ap plainOf (refused (setIn (plainOf s)) e room h .1 ∙ returns s)

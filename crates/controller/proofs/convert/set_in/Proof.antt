@@ -1,0 +1,18 @@
+-- `controller::convert::set_in` meets its contract.
+-- Assumes nothing.
+use mathlib.Core.Path.{refl}
+use borrow.Author.Needs.{needs}
+use Rattle.controller.proofs.convert.set_in.Statement.{statement}
+use Rattle.controller.proofs.convert.set_in.Tie as tie
+
+channels-in-requires : tie.Need-channels-in-requires
+channels-in-requires c κs = search needs
+
+desks-in-requires : tie.Need-desks-in-requires
+desks-in-requires c κs = search needs
+
+returns : tie.Need-returns
+returns c = simp (c .before .before .before .channels-in .ensures, c .before .desks-in .ensures) refl
+
+pub set-in-spec : {M : Type 1} → statement M
+set-in-spec = tie.close (tie.spec channels-in-requires desks-in-requires returns)

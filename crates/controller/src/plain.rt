@@ -1,0 +1,71 @@
+// A set in a caller's memory. An exported function may not see an enum, so that here all is numbers; any bytes are such a
+// set. `spare` is 0 and fills a gap, so that a set has no byte of which nothing is said.
+
+// The desk that has captured the channel, if `held` is 1.
+#[repr(C)]
+pub struct PlainHolder {
+    pub held: u8,
+    pub desk: u8,
+}
+
+// The open call, if `opened` is 1.
+#[repr(C)]
+pub struct PlainCall {
+    pub source: u32,
+    pub base: u16,
+    pub opened: u8,
+    pub kind: u8,
+    pub direction: u8,
+    pub recipients: u8,
+    pub spare: u16,
+}
+
+// The mobile that talks, if `present` is 1.
+#[repr(C)]
+pub struct PlainArrival {
+    pub number: u32,
+    pub base: u16,
+    pub present: u8,
+    pub kind: u8,
+    pub recipients: u8,
+    pub spare: [u8; 3],
+}
+
+// A flag is 1 for true.
+#[repr(C)]
+pub struct PlainChannel {
+    pub call: PlainCall,
+    pub arrival: PlainArrival,
+    pub holder: PlainHolder,
+    pub code: u8,
+    pub entitled: u8,
+    pub pressed: u8,
+    pub quiet: u8,
+    pub release: u8,
+    pub spare: u8,
+}
+
+#[repr(C)]
+pub struct PlainDesk {
+    pub code: u32,
+    pub number: u32,
+    pub phase: u8,
+    pub spare: [u8; 3],
+}
+
+// `desk_count` and `channel_count` are the plan's size..
+// How many desks and channels the plan has.
+#[repr(C)]
+pub struct PlainSize {
+    pub desks: u8,
+    pub channels: u8,
+}
+
+#[repr(C)]
+pub struct PlainSet {
+    pub channels: [PlainChannel; 32],
+    pub desks: [PlainDesk; 4],
+    pub size: PlainSize,
+    pub planned: u8,
+    pub spare: u8,
+}
