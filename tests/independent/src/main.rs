@@ -1,24 +1,7 @@
 //! The independent test program: its own reading of the rules, held against
 //! another program's answers.
 
-mod child;
-mod commands;
-mod compare_replay;
-mod compare_telegrams;
-mod coverage;
-mod feed;
-mod frames;
-mod generate;
-mod random;
-mod refusal;
-mod replay;
-mod samples;
-mod session;
-mod set;
-mod telegram;
-mod telegram_groups;
-mod timing;
-
+use independent::commands;
 use std::ffi::OsString;
 use std::process::ExitCode;
 

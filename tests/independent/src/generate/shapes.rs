@@ -7,7 +7,6 @@ use crate::random::Random;
 use crate::replay::BUFFER;
 use crate::set::Set;
 
-#[cfg(test)]
 pub const NAMES: [&str; 6] = [
     "mixed4",
     "mixed32",
