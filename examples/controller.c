@@ -1,0 +1,65 @@
+/* Steps a set through the listing of document 01 and prints of each entry its number, its refusal and its count. */
+#include "imjauska.h"
+
+#include <stdio.h>
+#include <stdlib.h>
+#include <string.h>
+
+enum { VERSION = 1, TELEGRAM = 1, PLAN = 7, HANDOVER = 8 };
+
+/* A set needs no heap: here it is static, and so all zero. */
+static union {
+    uint32_t aligned;
+    uint8_t bytes[IMJAUSKA_SET_SIZE];
+} memory;
+
+static uint8_t entry[128];
+static uint8_t records[32768];
+
+/* Puts an entry together: its length, the version, its kind and its payload. */
+static size_t make(uint8_t kind, const void *payload, size_t size)
+{
+    size_t length = size + 2;
+    entry[0] = (uint8_t)(length >> 8);
+    entry[1] = (uint8_t)length;
+    entry[2] = VERSION;
+    entry[3] = kind;
+    memcpy(entry + 4, payload, size);
+    return size + 4;
+}
+
+static size_t make_telegram(uint8_t desk, const char *telegram)
+{
+    uint8_t payload[64];
+    size_t size = strlen(telegram);
+    payload[0] = desk;
+    memcpy(payload + 1, telegram, size);
+    return make(TELEGRAM, payload, size + 1);
+}
+
+static void step(int number, size_t length)
+{
+    imjauska_set *set = (imjauska_set *)&memory;
+    size_t count;
+    uint8_t refusal = imjauska_step(set, entry, length, records, sizeof records, &count);
+    printf("E %d %u %zu\n", number, (unsigned)refusal, count);
+}
+
+int main(void)
+{
+    static const uint8_t plan[] = {1, 0, 12, '0', '0', '1', '2', '0', '0', '0', '1', 1, 7, 1};
+    const char *capture = "DV002900125506000078001200011";
+
+    if (imjauska_set_size() != sizeof memory.bytes || imjauska_set_align() != IMJAUSKA_SET_ALIGN) {
+        fputs("the header is not that of the library\n", stderr);
+        return EXIT_FAILURE;
+    }
+    imjauska_new((imjauska_set *)&memory);
+    step(1, make(PLAN, plan, sizeof plan));
+    step(2, make_telegram(0, capture));
+    step(3, make_telegram(0, "DV0030001255041120240229120000"));
+    step(4, make_telegram(0, "DV0018001255042101"));
+    step(5, make_telegram(0, capture));
+    step(6, make(HANDOVER, "", 0));
+    return EXIT_SUCCESS;
+}

@@ -1,0 +1,79 @@
+/*
+ * The line set of the Imjauska cases, for controllers: desks, channels and the rules of document 01 ("What the build
+ * includes and its rules"), entry by entry. Link target/staticlib/libcontroller.a, which `rt staticlib controller` writes
+ * for x86-64. It calls memcpy and memmove and nothing else: no allocation, no system call, no global state.
+ *
+ * Every function is proved to do what is said of it here, for
+ *   - an entry of any bytes and any length, 0 included,
+ *   - a buffer of any length, 0 included, whatever it held,
+ *   - a set of any contents.
+ * It always returns, and reads and writes nothing but what the caller lends. The caller owes what no function can see:
+ *   - the pointers lead to memory of the lengths given, which the caller may use, and which does not overlap; an entry or a
+ *     buffer of length 0 may be NULL, the set and the count may not,
+ *   - while a function runs nobody else uses what it was lent: not two threads at once on one set (two sets are apart),
+ *   - 64 KiB of stack (tested, not proved).
+ */
+#ifndef IMJAUSKA_H
+#define IMJAUSKA_H
+
+#include <stddef.h>
+#include <stdint.h>
+
+#ifdef __cplusplus
+extern "C" {
+#endif
+
+/*
+ * A set in the caller's memory: imjauska_set_size() bytes at an address that is a multiple of imjauska_set_align(). The
+ * memory is initialised before imjauska_new, as static memory and that of calloc is; what it holds does not matter. From
+ * then on only the functions below write it. It has no pointers, so that it may be copied as bytes, kept and put back.
+ */
+typedef struct imjauska_set imjauska_set;
+
+/* The same two numbers, for a set in static memory. */
+#define IMJAUSKA_SET_SIZE 1076
+#define IMJAUSKA_SET_ALIGN 4
+
+/* Why an entry was refused: the numbers of 01, in the order in which they are checked. */
+enum imjauska_refusal {
+    IMJAUSKA_ACCEPTED = 0,
+    IMJAUSKA_BAD_LENGTH = 1,      /* fewer than 4 bytes, the length wrong or above 12,000 */
+    IMJAUSKA_BAD_VERSION = 2,     /* the version is not 1 */
+    IMJAUSKA_BAD_KIND = 3,        /* the kind is not 1 to 8, its payload's size wrong, on above 1 or base above 29 */
+    IMJAUSKA_NO_PLAN = 4,         /* there is no plan yet, and this is none */
+    IMJAUSKA_PLAN_PRESENT = 5,    /* there is a plan, and this is another */
+    IMJAUSKA_BAD_PLAN = 6,        /* the plan breaks a rule */
+    IMJAUSKA_NO_DESK = 7,         /* the desk is not in the plan */
+    IMJAUSKA_BAD_HEADER = 8,      /* the telegram's header is wrong, or its code is not the desk's */
+    IMJAUSKA_BAD_IDENTIFIER = 9,  /* no telegram of this identifier, or none that a desk sends */
+    IMJAUSKA_BAD_BODY = 10,       /* the telegram's body has another size or a field out of range */
+    IMJAUSKA_WRONG_PHASE = 11,    /* the desk's link is not in the phase needed */
+    IMJAUSKA_NO_CHANNEL = 12,     /* the channel is not in the plan, or the desk not entitled to it */
+    IMJAUSKA_WRONG_NUMBER = 13,   /* not the desk's own number; a mobile's number that is none */
+    IMJAUSKA_NOT_HOLDER = 14,     /* press or cut by a desk that does not hold the channel */
+    IMJAUSKA_NO_CHANGE = 15,      /* on while on, or off while off: press or mobile */
+    IMJAUSKA_NO_ROOM = 16         /* the records do not fit the buffer */
+};
+
+/* How many bytes a set takes. */
+size_t imjauska_set_size(void);
+
+/* What the address of a set is a multiple of. */
+size_t imjauska_set_align(void);
+
+/* Makes a new set, without a plan, and writes every byte of it. */
+void imjauska_new(imjauska_set *set);
+
+/*
+ * Takes one entry, its two length bytes included, and writes the records that it sends into the buffer, one after another.
+ * Returns IMJAUSKA_ACCEPTED or why the entry was refused; *count becomes the number of bytes written.
+ * Accepted: the bytes from *count on stay as they were. Refused: *count is 0, and the set and the buffer stay as they were.
+ */
+uint8_t imjauska_step(imjauska_set *set, const uint8_t *entry, size_t entry_length, uint8_t *buffer, size_t buffer_length,
+                      size_t *count);
+
+#ifdef __cplusplus
+}
+#endif
+
+#endif
