@@ -1,7 +1,7 @@
 /*
  * The line set of the Imjauska cases, for controllers: desks, channels and the rules of document 01 ("What the build
  * includes and its rules"), entry by entry. Link target/staticlib/libcontroller.a, which `rt staticlib controller` writes
- * for x86-64. It calls memcpy and memmove and nothing else: no allocation, no system call, no global state.
+ * for x86-64. Of C it needs memcpy and memmove alone: no allocation, no system call, no global state.
  *
  * Every function is proved to do what is said of it here, for
  *   - an entry of any bytes and any length, 0 included,

@@ -130,10 +130,10 @@ fn desks_in(plain: [PlainDesk; 4]) -> [Desk; 4]
 pub fn set_in(p: PlainSet) -> LineSet
     ensures { λ r. ⌜ r ≡ setIn p ⌝ }
 {
-    let plain = p.channels;
-    let channels = channels_in(plain);
-    let places = p.desks;
-    let desks = desks_in(places);
+    let plain_channels = p.channels;
+    let channels = channels_in(plain_channels);
+    let plain_desks = p.desks;
+    let desks = desks_in(plain_desks);
     LineSet {
         channels,
         desks,
@@ -290,10 +290,10 @@ fn desks_of(desks: [Desk; 4]) -> [PlainDesk; 4]
 pub fn plain_of(set: LineSet) -> PlainSet
     ensures { λ r. ⌜ r ≡ plainOf set ⌝ }
 {
-    let planned = set.channels;
-    let channels = channels_of(planned);
-    let places = set.desks;
-    let desks = desks_of(places);
+    let set_channels = set.channels;
+    let channels = channels_of(set_channels);
+    let set_desks = set.desks;
+    let desks = desks_of(set_desks);
     PlainSet {
         channels,
         desks,

@@ -1,5 +1,5 @@
-// A set in a caller's memory. An exported function may not see an enum, so that here all is numbers; any bytes are such a
-// set. `spare` is 0 and fills a gap, so that a set has no byte of which nothing is said.
+// A set as numbers, for a caller's memory: an exported function may not see an enum. Any bytes are such a set. A flag is 1
+// for true; `spare` is 0 and fills a gap, so that a set has no byte of which nothing is said.
 
 // The desk that has captured the channel, if `held` is 1.
 #[repr(C)]
@@ -31,7 +31,6 @@ pub struct PlainArrival {
     pub spare: [u8; 3],
 }
 
-// A flag is 1 for true.
 #[repr(C)]
 pub struct PlainChannel {
     pub call: PlainCall,
@@ -53,7 +52,6 @@ pub struct PlainDesk {
     pub spare: [u8; 3],
 }
 
-// `desk_count` and `channel_count` are the plan's size..
 // How many desks and channels the plan has.
 #[repr(C)]
 pub struct PlainSize {
