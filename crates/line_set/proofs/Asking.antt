@@ -2,7 +2,7 @@
 -- Assumes nothing.
 use Prim.Native.Nat.{ℕ, _≤_}
 use mathlib.Core.List.{List}
-use mathlib.Core.Bool.{Bool, true, false, _&&_, cond, false≢true}
+use mathlib.Core.Bool.{Bool, true, false, cond}
 use mathlib.Core.Path.{_≡_, refl, sym, ap, _∙_}
 use lib.Dec.{leb}
 use borrow.Author.Tests.{leb-true}
@@ -15,6 +15,7 @@ use Rattle.set_rules.specs.declared.state.LineSet.{LineSet}
 use Rattle.line_set.specs.Judging.{requestRefusal}
 use Rattle.line_set.specs.Steps.{judged, requestEffect, requestOutcome, planOutcome}
 use Rattle.line_set.specs.declared.request.Request.{Request}
+use Rattle.line_set.proofs.Places.{and-left, and-right}
 
 -- ---- plans
 
@@ -46,14 +47,6 @@ plan-ok p = go (planOk p) refl
 pub plan-set : (p : List ℕ) → planOk p ≡ true → planOf p .set ≡ setOf p
 unfolding planOf
 plan-set p k = rw k
-
-and-left : (a b : Bool) → (a && b) ≡ true → a ≡ true
-and-left true b h = refl
-and-left false b h = h
-
-and-right : (a b : Bool) → (a && b) ≡ true → b ≡ true
-and-right true b h = h
-and-right false b h = absurd (false≢true h)
 
 -- a plan has at most four desks
 pub desks-few : (p : List ℕ) → planOk p ≡ true → setOf p .size .desks ≤ 4

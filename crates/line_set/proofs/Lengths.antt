@@ -2,13 +2,14 @@
 -- Assumes nothing.
 use Prim.Native.Nat.{ℕ, _≤_, _<_}
 use mathlib.Core.List.{List}
-use mathlib.Core.Bool.{Bool, true, false, _&&_, false≢true}
+use mathlib.Core.Bool.{Bool, true, false, false≢true}
 use mathlib.Core.Path.{_≡_, refl, sym, _∙_}
 use native.Mathlib.Omega.{arith}
 use lib.Dec.{eqb, leb, ltb}
 use lib.ListN.{length}
 use borrow.Author.Tests.{leb-true, eqb-true, ltb-true, ltb-false, ne-eqb}
 use Rattle.set_rules.specs.Entries.{byte, measured, payload, sizeOk, payloadOk, readEntry}
+use Rattle.line_set.proofs.Places.{and-left}
 
 kind-is : (k : ℕ) (e : List ℕ) → payload k e .kind ≡ k
 kind-is k e = go (eqb k 1) refl (eqb k 2) refl (eqb k 3) refl (eqb k 4) refl (eqb k 5) refl
@@ -70,10 +71,6 @@ kind-read e h = go (measured e) refl (eqb (byte e 2) 1) refl (payloadOk (byte e 
     go true p false q c r = absurd (let f : 0 < 0 = rw (p, q) at h in omega arith)
     go true p true q false r = absurd (let f : 0 < 0 = rw (p, q, r) at h in omega arith)
     go true p true q true r = rw (p, q, r) (refusal-is (byte e 3) e)
-
-and-left : (a b : Bool) → (a && b) ≡ true → a ≡ true
-and-left true b h = refl
-and-left false b h = h
 
 -- a payload of a right size is of a kind from 1 to 8
 sized-kind : (k n : ℕ) → sizeOk k n ≡ true → (1 ≤ k) × (k ≤ 8)
