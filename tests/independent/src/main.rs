@@ -23,7 +23,8 @@ const USAGE: &str = "usage:
       seed 'random' is taken from the clock) and on a long one (1000000)
   independent feed to-binary | to-text | show
       turns a text feed from standard input into bytes, bytes into text, or
-      bytes into text with the entries' numbers
+      bytes into text with the numbers that the replay gives the entries, which
+      to-binary takes too
   independent generate SEED N [--shape NAME]
       writes a feed of N entries; as a load to measure if a shape is named:
       mixed4, mixed32, ticks-rest, ticks-held, telegrams, refused

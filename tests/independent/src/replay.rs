@@ -125,8 +125,7 @@ pub fn entries(feed: &[u8]) -> impl Iterator<Item = &[u8]> {
     let mut rest = Some(feed);
     std::iter::from_fn(move || {
         let (entry, behind) = entry::split_first(rest?)?;
-        let refused = entry::read(entry) == Err(Refusal::Length);
-        rest = (!refused).then_some(behind);
+        rest = (!entry::ends_feed(entry)).then_some(behind);
         Some(entry)
     })
 }

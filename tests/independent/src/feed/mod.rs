@@ -12,6 +12,8 @@
 //! raw 00021a                                  any bytes, in hex, the length included
 //! # a comment
 //! ```
+//!
+//! A line may have entry numbers in front, as `show` puts them: `8..13  tick 6`.
 
 mod parse;
 mod print;

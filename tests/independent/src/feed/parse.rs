@@ -21,7 +21,7 @@ pub fn push_line(line: &[u8], feed: &mut Vec<u8>) -> Parsed<()> {
     let line = std::str::from_utf8(line).map_err(|_| "this is not text")?;
     let words = line.split_ascii_whitespace();
     let words: Vec<&str> = words.take_while(|word| !word.starts_with('#')).collect();
-    let Some((&name, words)) = words.split_first() else {
+    let Some((&name, words)) = without_number(&words).split_first() else {
         return Ok(());
     };
     match name {
@@ -33,6 +33,21 @@ pub fn push_line(line: &[u8], feed: &mut Vec<u8>) -> Parsed<()> {
             Ok(())
         }
     }
+}
+
+/// Leaves out the entry numbers that `show` puts in front. They are not
+/// checked, so that lines can be taken out of a feed that was shown.
+fn without_number<'a, 'b>(words: &'a [&'b str]) -> &'a [&'b str] {
+    match words {
+        [number, rest @ ..] if !rest.is_empty() && is_number(number) => rest,
+        _ => words,
+    }
+}
+
+/// `7` or `8..13`
+fn is_number(word: &str) -> bool {
+    let (first, last) = word.split_once("..").unwrap_or((word, word));
+    decimal(first).is_some() && decimal(last).is_some()
 }
 
 /// The entries that are a few words each.

@@ -12,16 +12,22 @@ pub fn to_text(feed: &[u8], out: &mut impl Write) -> io::Result<()> {
     Ok(())
 }
 
-/// Writes a feed as text with the numbers of the entries in front.
+/// Writes a feed as text with the numbers that the replay gives the entries.
+/// Those that it does not reach have none.
 pub fn show(feed: &[u8], out: &mut impl Write) -> io::Result<()> {
-    for Line { first, last, text } in lines(feed) {
-        if first == last {
-            writeln!(out, "{first}  {text}")?;
+    let mut lines = lines(feed);
+    for line in lines.by_ref() {
+        let comment = if line.ends {
+            "  # refused with 1: the replay ends here"
         } else {
-            writeln!(out, "{first}..{last}  {text}")?;
+            ""
+        };
+        writeln!(out, "{}  {}{comment}", line.numbers(), line.text)?;
+        if line.ends {
+            break;
         }
     }
-    Ok(())
+    lines.try_for_each(|line| writeln!(out, "{}", line.text))
 }
 
 /// A line and the numbers of the entries that it stands for.
@@ -29,6 +35,18 @@ struct Line {
     first: usize,
     last: usize,
     text: String,
+    /// Whether the replay ends with it.
+    ends: bool,
+}
+
+impl Line {
+    fn numbers(&self) -> String {
+        let Line { first, last, .. } = self;
+        match last - first {
+            0 => first.to_string(),
+            _ => format!("{first}..{last}"),
+        }
+    }
 }
 
 /// One line an entry, but only one for a run of ticks.
@@ -43,13 +61,22 @@ fn lines(feed: &[u8]) -> impl Iterator<Item = Line> + '_ {
                 1 => "tick".to_string(),
                 _ => format!("tick {ticks}"),
             };
-            return Some(Line { first, last, text });
+            return Some(Line {
+                first,
+                last,
+                text,
+                ends: false,
+            });
         }
         let (bytes, behind) = entry::split_first(rest)?;
         rest = behind;
         last += 1;
-        let text = line(bytes);
-        Some(Line { first, last, text })
+        Some(Line {
+            first,
+            last,
+            text: line(bytes),
+            ends: entry::ends_feed(bytes),
+        })
     })
 }
 

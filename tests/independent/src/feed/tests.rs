@@ -3,10 +3,17 @@
 use super::*;
 use crate::generate;
 use crate::random::Random;
+use crate::replay::entries;
 
 fn text_of(feed: &[u8]) -> String {
     let mut text = Vec::new();
     to_text(feed, &mut text).unwrap();
+    String::from_utf8(text).unwrap()
+}
+
+fn shown(feed: &[u8]) -> String {
+    let mut text = Vec::new();
+    show(feed, &mut text).unwrap();
     String::from_utf8(text).unwrap()
 }
 
@@ -58,11 +65,48 @@ fn bad_plans_have_words_too() {
 #[test]
 fn entry_numbers() {
     let feed = to_binary(b"press 0 7 on\ntick\ntick 12\nhandover\nraw 00").unwrap();
-    let mut shown = Vec::new();
-    show(&feed, &mut shown).unwrap();
-    let shown = String::from_utf8(shown).unwrap();
-    let due = "1  press 0 7 on\n2..14  tick 13\n15  handover\n16  raw 00\n";
-    assert_eq!(shown, due);
+    let due = "\
+1  press 0 7 on
+2..14  tick 13
+15  handover
+16  raw 00  # refused with 1: the replay ends here
+";
+    assert_eq!(shown(&feed), due);
+}
+
+#[test]
+fn what_the_replay_does_not_reach_has_no_number() {
+    for last in ["0000", "000101", &format!("2ee1{:024002}", 0)] {
+        let feed = to_binary(format!("tick 2\nraw {last}\ntick 3\nhandover").as_bytes()).unwrap();
+        let due =
+            format!("1..2  tick 2\n3  raw {last}  # refused with 1: the replay ends here\ntick 3\nhandover\n");
+        assert_eq!(shown(&feed), due);
+    }
+}
+
+#[test]
+fn too_long_for_words() {
+    for (size, word) in [(12_000, "telegram"), (12_001, "raw"), (65_535, "raw")] {
+        assert!(shown(&generate::too_long(size)).starts_with(&format!("1  {word} ")));
+    }
+}
+
+/// The last number of a shown feed is the replay's, and the numbers do not
+/// keep it from being turned back into the same bytes.
+#[test]
+fn shown_feeds_match_the_replay() {
+    for seed in 0..200 {
+        let feed = generate::feed(seed, 200);
+        let text = shown(&feed);
+        assert_eq!(to_binary(text.as_bytes()).unwrap(), feed, "{seed}");
+        let numbers = text.lines().filter_map(last_number);
+        assert_eq!(numbers.last(), Some(entries(&feed).count()), "{seed}");
+    }
+}
+
+fn last_number(line: &str) -> Option<usize> {
+    let number = line.split_once("  ")?.0;
+    number.rsplit("..").next()?.parse().ok()
 }
 
 #[test]
@@ -123,6 +167,9 @@ fn messages() {
         ("cut 0 256", "line 1: '256' is not a channel, 0 to 255"),
         ("cut -1 2", "line 1: '-1' is not a desk, 0 to 255"),
         ("jump", "line 1: there is no entry 'jump'"),
+        ("12", "line 1: there is no entry '12'"),
+        ("8.13 tick", "line 1: there is no entry '8.13'"),
+        ("8.. tick", "line 1: there is no entry '8..'"),
         (
             "tick 0",
             "line 1: '0' is not a count of ticks, 1 to 1000000",

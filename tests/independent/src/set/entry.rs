@@ -64,11 +64,16 @@ pub fn is_whole(bytes: &[u8]) -> bool {
     }
 }
 
-/// Takes a whole entry apart without a limit on the base, for those who want
-/// to show what it says.
+/// Whether nothing is read behind this entry: it is refused with 1.
+pub fn ends_feed(bytes: &[u8]) -> bool {
+    read(bytes) == Err(Refusal::Length)
+}
+
+/// Takes an entry apart without a limit on the base, for those who want to
+/// show what it says.
 pub fn read_loosely(bytes: &[u8]) -> Option<Entry<'_>> {
     match *bytes {
-        [_, _, VERSION, kind, ref payload @ ..] if is_whole(bytes) => shape(kind, payload),
+        [_, _, VERSION, kind, ref payload @ ..] if !ends_feed(bytes) => shape(kind, payload),
         _ => None,
     }
 }
