@@ -27,7 +27,8 @@ const USAGE: &str = "usage:
       to-binary takes too
   independent generate SEED N [--shape NAME]
       writes a feed of N entries; as a load to measure if a shape is named:
-      mixed4, mixed32, ticks-rest, ticks-held, telegrams, refused
+      mixed1, mixed4, mixed32, ticks-rest, ticks-held, telegrams, refused, on
+      four desks, or on one with -1desk behind the name
   independent time FEED ROUNDS
       measures the steps of a feed in nanoseconds an entry";
 

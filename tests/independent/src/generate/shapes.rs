@@ -1,5 +1,5 @@
 //! Feeds for measuring speed: one kind of load each, after a plan of four
-//! desks has been brought up.
+//! desks has been brought up, or of one desk if the name ends in `-1desk`.
 
 use super::moves::{self, Scene, CAPTURE, RELEASE};
 use super::plans;
@@ -7,7 +7,8 @@ use crate::random::Random;
 use crate::replay::BUFFER;
 use crate::set::Set;
 
-pub const NAMES: [&str; 6] = [
+pub const NAMES: [&str; 7] = [
+    "mixed1",
     "mixed4",
     "mixed32",
     "ticks-rest",
@@ -16,11 +17,14 @@ pub const NAMES: [&str; 6] = [
     "refused",
 ];
 
-const DESKS: u8 = 4;
-
 /// A feed of one of the shapes, or nothing if there is none of that name.
 pub fn feed(name: &str, seed: u64, count: usize) -> Option<Vec<u8>> {
+    let (name, desks) = match name.strip_suffix("-1desk") {
+        Some(name) => (name, 1),
+        None => (name, 4),
+    };
     let channels = match name {
+        "mixed1" => 1,
         "mixed4" | "telegrams" => 4,
         "mixed32" | "ticks-rest" | "ticks-held" | "refused" => 32,
         _ => return None,
@@ -32,9 +36,9 @@ pub fn feed(name: &str, seed: u64, count: usize) -> Option<Vec<u8>> {
         feed: Vec::new(),
         left: count,
     };
-    load.bring_up(channels);
+    load.bring_up(desks, channels);
     match name {
-        "ticks-held" => load.hold_all(),
+        "ticks-held" => load.hold_all(desks),
         "refused" => load.use_some(),
         _ => {}
     }
@@ -86,9 +90,9 @@ impl Load {
         self.add(&entry.unwrap_or_else(moves::tick));
     }
 
-    fn bring_up(&mut self, channels: usize) {
-        self.add(&plans::full(DESKS.into(), channels).entry());
-        for desk in 0..DESKS {
+    fn bring_up(&mut self, desks: u8, channels: usize) {
+        self.add(&plans::full(desks.into(), channels).entry());
+        for desk in 0..desks {
             self.add_from(|scene| Some(scene.time_notice(desk)));
             self.add_from(|scene| Some(scene.operation_answer(desk, 1)));
         }
@@ -110,9 +114,9 @@ impl Load {
     }
 
     /// Every channel held, by one desk after the other, and pressed once.
-    fn hold_all(&mut self) {
+    fn hold_all(&mut self, desks: u8) {
         for place in 0..32 {
-            let desk = place as u8 % DESKS;
+            let desk = place as u8 % desks;
             self.add_from(|scene| {
                 let channel = scene.lines.channels[place].code;
                 Some(scene.request(desk, channel, CAPTURE))

@@ -51,24 +51,50 @@ fn most_entries_are_accepted() {
 #[test]
 fn shapes() {
     for name in shapes::NAMES {
+        let on_one_desk = shapes::feed(&format!("{name}-1desk"), 1, 3000).unwrap();
         let feed = shapes::feed(name, 1, 3000).unwrap();
         assert_eq!(feed, shapes::feed(name, 1, 3000).unwrap());
-        assert_eq!(whole_entries(&feed), 3000);
-        let refusals = refusals(&feed);
-        assert_eq!(refusals.len(), 3000);
-        assert!(!refusals.contains(&1));
-        // The plan, four desks, and what is used before.
-        let accepted = refusals[300..]
-            .iter()
-            .filter(|&&refusal| refusal == 0)
-            .count();
-        match name {
-            "refused" => assert_eq!(accepted, 0),
-            "mixed4" | "mixed32" => assert!(accepted > 2400),
-            _ => assert_eq!(accepted, 2700, "{name}"),
+        assert_ne!(feed, on_one_desk);
+        for feed in [feed, on_one_desk] {
+            assert_eq!(whole_entries(&feed), 3000);
+            let refusals = refusals(&feed);
+            assert_eq!(refusals.len(), 3000);
+            assert!(!refusals.contains(&1));
+            // The plan, the desks, and what is used before.
+            let accepted = refusals[300..]
+                .iter()
+                .filter(|&&refusal| refusal == 0)
+                .count();
+            match name {
+                "refused" => assert_eq!(accepted, 0),
+                "mixed1" | "mixed4" | "mixed32" => assert!(accepted > 2400),
+                _ => assert_eq!(accepted, 2700, "{name}"),
+            }
         }
     }
-    assert!(shapes::feed("other", 1, 10).is_none());
+    for name in ["other", "-1desk", "mixed4-1desk-1desk"] {
+        assert!(shapes::feed(name, 1, 10).is_none(), "{name}");
+    }
+}
+
+#[test]
+fn channels_and_desks_of_mixed_feeds() {
+    for (name, channels, desks) in [
+        ("mixed1", 1, 4),
+        ("mixed4", 4, 4),
+        ("mixed32", 32, 4),
+        ("mixed1-1desk", 1, 1),
+        ("mixed4-1desk", 4, 1),
+        ("mixed32-1desk", 32, 1),
+    ] {
+        let mut set = Set::new();
+        for entry in entries(&shapes::feed(name, 1, 10).unwrap()) {
+            set.step(entry, &mut vec![0; BUFFER]);
+        }
+        let lines = set.lines().unwrap();
+        assert_eq!(lines.channels.len(), channels);
+        assert_eq!(Desks::running(&lines.desks).count(), desks);
+    }
 }
 
 #[test]
