@@ -6,16 +6,16 @@ use mathlib.Core.Bool.{Bool, true, false, cond}
 use mathlib.Core.Path.{_≡_, refl, sym, ap, _∙_}
 use lib.Dec.{leb}
 use borrow.Author.Tests.{leb-true}
+use Rattle.fields.proofs.DigitLaws.{both}
 use Rattle.entries.specs.Planned.{planOf}
 use Rattle.set_rules.specs.State.{hasDesk, deskAt, hasChannel, channelAt}
 use Rattle.set_rules.specs.Plan.{deskCount, planOk, setOf}
 use Rattle.set_rules.specs.SetRules.{onPlan}
 use Rattle.set_rules.specs.Feeds.{refuse, emit}
 use Rattle.set_rules.specs.declared.state.LineSet.{LineSet}
-use Rattle.line_set.specs.Judging.{requestRefusal}
+use Rattle.changes.specs.Judging.{requestRefusal}
 use Rattle.line_set.specs.Steps.{judged, requestEffect, requestOutcome, planOutcome}
-use Rattle.line_set.specs.declared.request.Request.{Request}
-use Rattle.line_set.proofs.Places.{and-left, and-right}
+use Rattle.changes.specs.declared.request.Request.{Request}
 
 -- ---- plans
 
@@ -52,7 +52,7 @@ plan-set p k = rw k
 pub desks-few : (p : List ℕ) → planOk p ≡ true → setOf p .size .desks ≤ 4
 unfolding planOk setOf
 desks-few p h =
-    leb-true (deskCount p) 4 (and-right (leb 1 (deskCount p)) _ (and-left _ _ (and-left _ _ (and-left _ _ (and-left _ _ (and-left _ _ h))))))
+    leb-true (deskCount p) 4 (both (leb 1 (deskCount p)) _ (both _ _ (both _ _ (both _ _ (both _ _ (both _ _ h .0) .0) .0) .0) .0) .1)
 
 -- ---- requests
 

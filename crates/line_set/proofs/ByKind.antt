@@ -23,10 +23,11 @@ use Rattle.set_rules.specs.Feeds.{Outcome, answerOf, refuse, emit, stepOf}
 use Rattle.set_rules.specs.declared.state.Entry.{Entry}
 use Rattle.set_rules.specs.declared.state.LineSet.{LineSet}
 use Rattle.set_rules.specs.declared.state.Answer.{Answer}
-use Rattle.line_set.specs.Requests.{asks, asksNothing, requestIn}
-use Rattle.line_set.specs.declared.request.Request.{Request}
-use Rattle.line_set.specs.Judging.{lineRefusal, requestRefusal}
-use Rattle.line_set.specs.Steps.{Gives, judged, eventOf, lineOutcome, requestEffect, requestOutcome, planOutcome}
+use Rattle.changes.specs.Requests.{asks, asksNothing, requestIn}
+use Rattle.changes.specs.declared.request.Request.{Request}
+use Rattle.changes.specs.Judging.{requestRefusal}
+use Rattle.changes.specs.Changes.{eventOf}
+use Rattle.line_set.specs.Steps.{Gives, judged, lineRefusalOf, lineOutcome, requestEffect, requestOutcome, planOutcome}
 
 -- ---- tests in the table's order, and as the code asks them
 
@@ -85,23 +86,23 @@ two-to-five (suc (suc (suc (suc (suc (suc k)))))) a b = absurd (omega arith)
 module _ (s : LineSet) (e : List ℕ) (x : Entry) (z : x .refusal ≡ 0) (p : s .planned ≡ true) where
   -- ---- press, cut, mobile on and off
 
-  press-refusal : x .kind ≡ 2 → refusalOf s e x ≡ lineRefusal s x
+  press-refusal : x .kind ≡ 2 → refusalOf s e x ≡ lineRefusalOf s x
   unfolding refusalOf firstOf
   press-refusal k = rw (z, k, p) (press-form (hasDesk s (x .desk)) (eqb (deskAt s (x .desk) .link .phase) 3) (mayUse s (x .desk) (x .channel)) (heldBy (x .desk) (channelAt s (x .channel) .holder)) (eqb (x .on) (cond (channelAt s (x .channel) .pressed) 1 0)))
 
-  cut-refusal : x .kind ≡ 3 → refusalOf s e x ≡ lineRefusal s x
+  cut-refusal : x .kind ≡ 3 → refusalOf s e x ≡ lineRefusalOf s x
   unfolding refusalOf firstOf
   cut-refusal k = rw (z, k, p) (cut-form (hasDesk s (x .desk)) (eqb (deskAt s (x .desk) .link .phase) 3) (mayUse s (x .desk) (x .channel)) (heldBy (x .desk) (channelAt s (x .channel) .holder)))
 
-  on-refusal : x .kind ≡ 4 → refusalOf s e x ≡ lineRefusal s x
+  on-refusal : x .kind ≡ 4 → refusalOf s e x ≡ lineRefusalOf s x
   unfolding refusalOf firstOf
   on-refusal k = rw (z, k, p) (on-form (hasChannel s (x .channel)) (isCaller (x .number)) (isPresent (channelAt s (x .channel) .arrival)))
 
-  off-refusal : x .kind ≡ 5 → refusalOf s e x ≡ lineRefusal s x
+  off-refusal : x .kind ≡ 5 → refusalOf s e x ≡ lineRefusalOf s x
   unfolding refusalOf firstOf
   off-refusal k = rw (z, k, p) (off-form (hasChannel s (x .channel)) (isPresent (channelAt s (x .channel) .arrival)))
 
-  line-of : (room : ℕ) → refusalOf s e x ≡ lineRefusal s x → accepted s e x ≡ byHolder s (x .channel) (eventOf x)
+  line-of : (room : ℕ) → refusalOf s e x ≡ lineRefusalOf s x → accepted s e x ≡ byHolder s (x .channel) (eventOf x)
       → judged s (refusalOf s e x) (accepted s e x) room ≡ lineOutcome s x room
   unfolding lineOutcome
   line-of room r a = ap₂ (λ (n : ℕ) (f : Effect). judged s n f room) r a

@@ -7,12 +7,11 @@ use mathlib.Core.Path.{_≡_, refl, sym, ap, subst, _∙_}
 use native.Mathlib.Omega.{arith}
 use lib.ListN.{length}
 use borrow.Author.Tests.{le-leb, lt-leb}
-use Rattle.line_rules.specs.Scripts.{heard, any}
+use Rattle.line_rules.specs.Scripts.{any}
 use Rattle.channel.specs.declared.state.Send.{Send}
 use Rattle.records.specs.Emitting.{written}
 use Rattle.records.proofs.Writing.{written-none, written-over}
-use Rattle.records.proofs.Heard.{heard-records, heard-space}
-use Rattle.set_rules.specs.Records.{Delivery, delivered, recordsOf, spaceOf}
+use Rattle.set_rules.specs.Records.{Delivery, recordsOf, spaceOf}
 use Rattle.set_rules.specs.SetRules.{Effect}
 use Rattle.set_rules.specs.Feeds.{Outcome, answerOf, refuse, emit}
 use Rattle.set_rules.proofs.Answers.{AllEven, space-length}
@@ -20,14 +19,6 @@ use Rattle.set_rules.specs.declared.state.Desk.{Desk}
 use Rattle.set_rules.specs.declared.state.LineSet.{LineSet}
 use Rattle.set_rules.specs.declared.state.Answer.{Answer}
 use Rattle.line_set.specs.Steps.{Gives}
-
--- ---- sends that are heard alike
-
-pub same-space : (ch : ℕ) (ss ts : List Send) → heard ss ≡ heard ts → spaceOf (delivered ch ss) ≡ spaceOf (delivered ch ts)
-same-space ch ss ts h = sym (heard-space ch ss) ∙ (ap (λ (l : List Send). spaceOf (delivered ch l)) h ∙ heard-space ch ts)
-
-pub same-records : (ds : List Desk) (ch : ℕ) (ss ts : List Send) → heard ss ≡ heard ts → recordsOf ds (delivered ch ss) ≡ recordsOf ds (delivered ch ts)
-same-records ds ch ss ts h = sym (heard-records ds ch ss) ∙ (ap (λ (l : List Send). recordsOf ds (delivered ch l)) h ∙ heard-records ds ch ts)
 
 pub nothing-sent : (ss : List Send) → any ss ≡ false → ss ≡ []
 nothing-sent [] h = refl

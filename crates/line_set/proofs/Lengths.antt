@@ -8,8 +8,8 @@ use native.Mathlib.Omega.{arith}
 use lib.Dec.{eqb, leb, ltb}
 use lib.ListN.{length}
 use borrow.Author.Tests.{leb-true, eqb-true, ltb-true, ltb-false, ne-eqb}
+use Rattle.fields.proofs.DigitLaws.{both}
 use Rattle.set_rules.specs.Entries.{byte, measured, payload, sizeOk, payloadOk, readEntry}
-use Rattle.line_set.proofs.Places.{and-left}
 
 kind-is : (k : ℕ) (e : List ℕ) → payload k e .kind ≡ k
 kind-is k e = go (eqb k 1) refl (eqb k 2) refl (eqb k 3) refl (eqb k 4) refl (eqb k 5) refl
@@ -29,24 +29,6 @@ long-enough e z = go (leb 4 (length e)) refl
     go : (t : Bool) → leb 4 (length e) ≡ t → 4 ≤ length e
     go true k = leb-true 4 (length e) k
     go false k = absurd (let f : _≡_ {A = ℕ} 1 0 = rw k at z in omega arith)
-
--- a telegram has a desk byte before it
-pub with-desk-byte : (e : List ℕ) → readEntry e .refusal ≡ 0 → readEntry e .kind ≡ 1 → 5 ≤ length e
-unfolding readEntry
-with-desk-byte e z k = go (measured e) refl (eqb (byte e 2) 1) refl (payloadOk (byte e 3) e) refl
-  where
-    of-kind : payloadOk (byte e 3) e ≡ true → byte e 3 ≡ 1 → 5 ≤ length e
-    of-kind p q = sized (leb 5 (length e)) refl (rw q at p)
-      where
-        sized : (t : Bool) → leb 5 (length e) ≡ t → payloadOk 1 e ≡ true → 5 ≤ length e
-        sized true h o = leb-true 5 (length e) h
-        sized false h o = absurd (false≢true (rw h at o))
-
-    go : (a : Bool) → measured e ≡ a → (b : Bool) → eqb (byte e 2) 1 ≡ b → (c : Bool) → payloadOk (byte e 3) e ≡ c → 5 ≤ length e
-    go false p b q c r = absurd (let f : _≡_ {A = ℕ} 1 0 = rw p at z in omega arith)
-    go true p false q c r = absurd (let f : _≡_ {A = ℕ} 2 0 = rw (p, q) at z in omega arith)
-    go true p true q false r = absurd (let f : _≡_ {A = ℕ} 3 0 = rw (p, q, r) at z in omega arith)
-    go true p true q true r = of-kind r (sym (kind-is (byte e 3) e) ∙ rw (p, q, r) at k)
 
 -- ---- its kind
 
@@ -94,4 +76,4 @@ kind-range e z = go (measured e) refl (eqb (byte e 2) 1) refl (payloadOk (byte e
     go false p b q c r = absurd (let f : _≡_ {A = ℕ} 1 0 = rw p at z in omega arith)
     go true p false q c r = absurd (let f : _≡_ {A = ℕ} 2 0 = rw (p, q) at z in omega arith)
     go true p true q false r = absurd (let f : _≡_ {A = ℕ} 3 0 = rw (p, q, r) at z in omega arith)
-    go true p true q true r = rw (p, q, r, kind-is (byte e 3) e) (sized-kind (byte e 3) (length e) (and-left _ _ (and-left _ _ r)))
+    go true p true q true r = rw (p, q, r, kind-is (byte e 3) e) (sized-kind (byte e 3) (length e) (both _ _ (both _ _ r .0) .0))

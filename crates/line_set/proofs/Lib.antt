@@ -1,9 +1,8 @@
-pub mod Places
+pub mod Seeking
 pub mod ByKind
 pub mod Emission
 pub mod Turns
 pub mod Asking
 pub mod Lengths
-pub mod Changing
 pub mod Lifting
 pub mod OneStep

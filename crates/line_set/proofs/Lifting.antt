@@ -21,11 +21,11 @@ use Rattle.set_rules.specs.Feeds.{Outcome, refuse, emit}
 use Rattle.set_rules.specs.declared.state.Desk.{Desk}
 use Rattle.set_rules.specs.declared.state.Entry.{Entry}
 use Rattle.set_rules.specs.declared.state.LineSet.{LineSet}
-use Rattle.line_set.specs.Requests.{asksNothing}
-use Rattle.line_set.specs.Judging.{lineRefusal, requestRefusal}
-use Rattle.line_set.specs.Steps.{judged, eventOf, lineOutcome, requestEffect}
-use Rattle.line_set.specs.Changes.{Move, Changed, refuseIn, emitIn, judgedIn, onOne, timeIn, answerIn, lineRefusalIn, lineIn, requestMove, requestOn, changeIn, lifted, moveAt}
-use Rattle.line_set.specs.declared.request.Request.{Request}
+use Rattle.changes.specs.Requests.{asksNothing}
+use Rattle.changes.specs.Judging.{requestRefusal}
+use Rattle.line_set.specs.Steps.{judged, lineRefusalOf, lineOutcome, requestEffect, lifted, moveAt}
+use Rattle.changes.specs.Changes.{Move, Changed, refuseIn, emitIn, judgedIn, onOne, timeIn, answerIn, lineRefusalIn, lineIn, requestMove, requestOn, changeIn, eventOf}
+use Rattle.changes.specs.declared.request.Request.{Request}
 
 -- a channel that is not found is refused with 7, 11 or 12
 not-found : (k t p : Bool) → _≡_ {A = ℕ} (cond k (cond t (cond p 12 11) 7) 12) 0 → ⊥
@@ -80,12 +80,12 @@ module _ (s : LineSet) (place : ℕ) (c : Channel) (at : getD (s .channels) plac
   line-lifts x true room w =
       let k = w .channel-is refl in
       let v = eventOf x in
-      let r : lineRefusalIn ds n x true c ≡ lineRefusal s x = ap₂ (λ (t : Bool) (y : Channel). lineRefusalIn ds n x t y) (w .is) k in
+      let r : lineRefusalIn ds n x true c ≡ lineRefusalOf s x = ap₂ (λ (t : Bool) (y : Channel). lineRefusalIn ds n x t y) (w .is) k in
       let e = happens-lifts (x .channel) (holderPlace (c .holder)) v (w .place-is refl) k ∙ ap (λ (y : Channel). onChannel s (x .channel) (holderPlace (y .holder)) v) k in
       lift-judged (lineRefusalIn ds n x true c) _ (byHolder s (x .channel) v) room (λ z. e) ∙ ap (λ (i : ℕ). judged s i (byHolder s (x .channel) v) room) r
   line-lifts x false room w =
       let v = eventOf x in
-      let r : lineRefusalIn ds n x false c ≡ lineRefusal s x = ap (λ (t : Bool). lineRefusalIn ds n x t (channelAt s (x .channel))) (w .is) in
+      let r : lineRefusalIn ds n x false c ≡ lineRefusalOf s x = ap (λ (t : Bool). lineRefusalIn ds n x t (channelAt s (x .channel))) (w .is) in
       lift-judged (lineRefusalIn ds n x false c) _ (byHolder s (x .channel) v) room (λ z. absurd (not-found (isKind 2 x || isKind 3 x) (ltb (x .desk) n) (eqb (getD ds (x .desk) noDesk .link .phase) 3) z))
       ∙ ap (λ (i : ℕ). judged s i (byHolder s (x .channel) v) room) r
 

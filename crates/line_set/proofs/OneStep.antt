@@ -19,16 +19,16 @@ use Rattle.set_rules.specs.declared.state.Desk.{Desk}
 use Rattle.set_rules.specs.declared.state.Entry.{Entry}
 use Rattle.set_rules.specs.declared.state.LineSet.{LineSet}
 use Rattle.set_rules.specs.declared.state.Answer.{Answer}
-use Rattle.line_set.specs.Requests.{asks, asksNothing, requestIn, requestFor}
-use Rattle.line_set.specs.Judging.{requestRefusal}
-use Rattle.line_set.specs.Steps.{Gives, judged, requestEffect}
-use Rattle.line_set.specs.Changes.{Changed, Makes, lineIn, requestOn, changeIn, lifted}
-use Rattle.line_set.specs.declared.request.Request.{Request}
-use Rattle.line_set.specs.declared.change.Change.{Change}
+use Rattle.changes.specs.Requests.{asks, asksNothing, requestIn, requestFor}
+use Rattle.changes.specs.Judging.{requestRefusal}
+use Rattle.line_set.specs.Steps.{Gives, judged, requestEffect, lifted}
+use Rattle.changes.specs.Changes.{Changed, Makes, lineIn, requestOn, changeIn}
+use Rattle.changes.specs.declared.request.Request.{Request}
+use Rattle.changes.specs.declared.change.Change.{Change}
 use Rattle.line_set.proofs.Asking.{no-desk, with-desk}
 use Rattle.line_set.proofs.ByKind.{two-to-five, line-step, telegram-step, unplanned-step, bad-step, step-gives}
-use Rattle.line_set.proofs.Changing.{makes-as}
-use Rattle.line_set.proofs.Places.{at-taken}
+use Rattle.changes.proofs.Changing.{makes-as}
+use Rattle.line_set.proofs.Seeking.{at-taken}
 use Rattle.line_set.proofs.Lengths.{kind-range}
 use Rattle.line_set.proofs.Lifting.{Found, line-lifts, request-lifts, nothing-lifts}
 

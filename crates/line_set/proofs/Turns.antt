@@ -24,9 +24,10 @@ use Rattle.set_rules.specs.Records.{Delivery, delivered, toEach, recordsOf, spa
 use Rattle.set_rules.specs.SetRules.{contextOf, happensIn, nextsOf, sendsOf}
 use Rattle.set_rules.specs.declared.state.Desk.{Desk}
 use Rattle.set_rules.specs.declared.state.LineSet.{LineSet}
-use Rattle.line_set.specs.Steps.{contextIn, sendsIn, sendsFrom}
+use Rattle.changes.specs.Changes.{contextIn}
+use Rattle.line_set.specs.Steps.{sendsIn, sendsFrom}
 use Rattle.line_set.proofs.Emission.{nothing-sent}
-use Rattle.line_set.proofs.Places.{take-count, drop-count}
+use Rattle.line_set.proofs.Seeking.{take-count, drop-count}
 
 space-append : (vs ws : List Delivery) → spaceOf (vs ++ ws) ≡ spaceOf vs + spaceOf ws
 unfolding spaceOf

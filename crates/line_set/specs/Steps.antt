@@ -4,25 +4,26 @@ use mathlib.Core.List.{List, [], _∷_, _++_}
 use mathlib.Core.Bool.{Bool, cond}
 use mathlib.Core.Path.{_≡_}
 use lib.Dec.{eqb}
-use lib.ListN.{take, getD, set}
+use lib.ListN.{set}
 use Rattle.telegram.specs.Telegram.{over}
 use Rattle.channel.specs.State.{holderPlace}
-use Rattle.line_rules.specs.Rules.{Context, happens}
+use Rattle.line_rules.specs.Rules.{happens}
 use Rattle.channel.specs.declared.state.Channel.{Channel}
 use Rattle.channel.specs.declared.state.Send.{Send}
 use Rattle.channel.specs.declared.state.Event.{Event}
-use Rattle.channel.specs.declared.state.Event.the-variants.{Capture, Release, Cut, PressOn, PressOff, MobileOn, MobileOff}
-use Rattle.set_rules.specs.State.{noDesk, runningFrom, deskAt, hasDesk, hasChannel, channelAt, withChannels}
+use Rattle.channel.specs.declared.state.Event.the-variants.{Capture, Release}
+use Rattle.set_rules.specs.State.{deskAt, hasDesk, hasChannel, channelAt, withDesks, withChannels}
 use Rattle.set_rules.specs.declared.state.Desk.{Desk}
 use Rattle.set_rules.specs.Plan.{planOk}
 use Rattle.set_rules.specs.Records.{Delivery, delivered}
-use Rattle.set_rules.specs.SetRules.{Effect, effect, contextOf, numberIn, byHolder, onChannel, timeTaken, answerTaken, onPlan}
+use Rattle.set_rules.specs.SetRules.{Effect, effect, byHolder, onChannel, timeTaken, answerTaken, onPlan}
 use Rattle.set_rules.specs.Feeds.{Outcome, answerOf, refuse, emit}
 use Rattle.set_rules.specs.declared.state.Entry.{Entry}
 use Rattle.set_rules.specs.declared.state.LineSet.{LineSet}
 use Rattle.set_rules.specs.declared.state.Answer.{Answer}
-use Rattle.line_set.specs.Judging.{lineRefusal, requestRefusal}
-use Rattle.line_set.specs.declared.request.Request.{Request}
+use Rattle.changes.specs.Judging.{requestRefusal}
+use Rattle.changes.specs.Changes.{Move, Changed, contextIn, eventOf, lineRefusalIn}
+use Rattle.changes.specs.declared.request.Request.{Request}
 
 -- an answer and a buffer after, as an outcome gives them
 pub record Gives (o : Outcome) (r : Answer) (before after : List ℕ) : Type 0 where
@@ -33,10 +34,6 @@ pub record Gives (o : Outcome) (r : Answer) (before after : List ℕ) : Type 0 w
 unfoldable pub judged : LineSet → ℕ → Effect → ℕ → Outcome
 judged s n f room = cond (eqb n 0) (emit s f room) (refuse n s)
 
--- the context of a rule, by the desks and how many of them the plan has; d holds the channel or asks for it
-abbrev pub contextIn : List Desk → ℕ → Channel → ℕ → Context
-contextIn ds n c d = record { listeners = runningFrom 0 (c .entitled) (take n ds); own = getD ds d noDesk .number }
-
 -- what an event sends, its channel's holder being the context's desk
 abbrev pub sendsIn : List Desk → ℕ → Event → Channel → List Send
 sendsIn ds n v c = happens v (contextIn ds n c (holderPlace (c .holder))) c .sends
@@ -46,16 +43,12 @@ unfoldable pub sendsFrom : List Desk → ℕ → Event → List Channel → List
 sendsFrom ds n v [] = []
 sendsFrom ds n v (c ∷ cs) = delivered (c .code) (sendsIn ds n v c) ++ sendsFrom ds n v cs
 
--- what an entry that is no telegram makes happen on its channel
-abbrev pub eventOf : Entry → Event
-eventOf x =
-    cond (eqb (x .kind) 2) (cond (eqb (x .on) 1) PressOn PressOff)
-    (cond (eqb (x .kind) 3) Cut
-    (cond (eqb (x .kind) 4) (MobileOn (x .base) (numberIn (x .number)))
-    MobileOff))
+-- an entry about one channel that is no telegram
+abbrev pub lineRefusalOf : LineSet → Entry → ℕ
+lineRefusalOf s x = lineRefusalIn (s .desks) (s .size .desks) x (hasChannel s (x .channel)) (channelAt s (x .channel))
 
 unfoldable pub lineOutcome : LineSet → Entry → ℕ → Outcome
-lineOutcome s x room = judged s (lineRefusal s x) (byHolder s (x .channel) (eventOf x)) room
+lineOutcome s x room = judged s (lineRefusalOf s x) (byHolder s (x .channel) (eventOf x)) room
 
 -- what a desk's request does
 abbrev pub requestEffect : LineSet → ℕ → Request → Effect
@@ -72,3 +65,19 @@ requestOutcome s d q room =
 
 unfoldable pub planOutcome : LineSet → List ℕ → ℕ → Outcome
 planOutcome s p room = cond (s .planned) (refuse 5 s) (cond (planOk p) (emit s (onPlan p) room) (refuse 6 s))
+
+-- ---- a change of one channel or one desk, in the set
+
+-- what a change makes of a set, the channel standing at this place
+abbrev pub lifted : LineSet → ℕ → Changed → Outcome
+lifted s place o =
+    record {
+      refusal = o .change .refusal;
+      count = o .change .count;
+      after = withDesks (o .change .desks) (withChannels (set (s .channels) place (o .change .channel)) s);
+      bytes = o .bytes;
+    }
+
+-- what a move does to a set
+abbrev pub moveAt : LineSet → ℕ → Move → Effect
+moveAt s place m = effect s (withDesks (m .desks) (withChannels (set (s .channels) place (m .channel)) s)) (m .sent)

@@ -1,7 +1,6 @@
 // Ticks and handovers: an event on every channel of the plan, in its order.
 use super::answer;
-use super::change;
-use super::lookup;
+use super::places;
 use channel::Channel;
 use channel::Event;
 use channel::Falling;
@@ -30,7 +29,7 @@ fn space_in(desks: [Desk; 4], n: u8, event: Event, c: Channel) -> usize
     }
     let holder = c.holder;
     let d = channel::holder_place(holder);
-    let m = change::moved(desks, n, d, event, c);
+    let m = changes::moved(desks, n, d, event, c);
     let sends = m.sends;
     records::space(sends)
 }
@@ -45,7 +44,7 @@ fn put_in(buffer: &mut [u8], at: usize, desks: [Desk; 4], n: u8, event: Event, c
     }
     let holder = c.holder;
     let d = channel::holder_place(holder);
-    let m = change::moved(desks, n, d, event, c);
+    let m = changes::moved(desks, n, d, event, c);
     let sends = m.sends;
     records::put(buffer, at, desks, c.code, sends)
 }
@@ -56,7 +55,7 @@ fn space_all(set: LineSet, event: Event) -> usize
 {
     let desks = set.desks;
     let n = set.size.desks;
-    let end = lookup::count_of(set.size.channels);
+    let end = places::count_of(set.size.channels);
     let mut sum = 0;
     let mut i = 0;
     while i < end {
@@ -74,7 +73,7 @@ fn put_all(set: LineSet, event: Event, buffer: &mut [u8]) -> usize
 {
     let desks = set.desks;
     let n = set.size.desks;
-    let end = lookup::count_of(set.size.channels);
+    let end = places::count_of(set.size.channels);
     let mut at = 0;
     let mut i = 0;
     while i < end {
@@ -95,7 +94,7 @@ struct TickedSet {
 fn ticked(mut set: LineSet) -> TickedSet
     ensures { λ r. ⌜ (r .set ≡ onTick set .after) × ((r .due ≡ false) → spaceOf (onTick set .sent) ≡ 0) ⌝ }
 {
-    let end = lookup::count_of(set.size.channels);
+    let end = places::count_of(set.size.channels);
     let mut due = false;
     let mut i = 0;
     while i < end {

@@ -1,9 +1,7 @@
 // One entry.
 use super::all;
-use super::change;
-use super::lookup;
+use super::places;
 use super::plan;
-use super::request;
 use set_rules::Answer;
 use set_rules::LineSet;
 ghost use mathlib.Core.Path.{_≡_};
@@ -29,8 +27,8 @@ pub fn step(mut set: LineSet, entry: &[u8], buffer: &mut [u8]) -> Answer
     }
     let desks = set.desks;
     let n = set.size.desks;
-    let q = request::request_of(x, set.planned, entry, desks, n);
-    let count = lookup::count_of(set.size.channels);
+    let q = changes::request_of(x, set.planned, entry, desks, n);
+    let count = places::count_of(set.size.channels);
     // The channel's place is sought. Where it is found, the search ends.
     let mut end = count;
     let mut i = 0;
@@ -42,9 +40,9 @@ pub fn step(mut set: LineSet, entry: &[u8], buffer: &mut [u8]) -> Answer
             i += 1;
         }
     }
-    let place = lookup::place_below(count, i);
+    let place = places::place_below(count, i);
     let c = set.channels[place];
-    let a = change::change_of(desks, n, x, q, i < count, c, buffer);
+    let a = changes::change_of(desks, n, x, q, i < count, c, buffer);
     let channel = a.channel;
     set.channels[place] = channel;
     let after = a.desks;

@@ -3,7 +3,7 @@
 use Prim.Native.Nat.{ℕ}
 use mathlib.Core.List.{List, [], _∷_}
 use mathlib.Core.Bool.{Bool, true, false}
-use mathlib.Core.Path.{_≡_, refl}
+use mathlib.Core.Path.{_≡_, refl, sym, ap, _∙_}
 use native.Mathlib.Nat.{zero-mul, zero-add}
 use lib.Count.{onesIn}
 use lib.Dec.{eqb}
@@ -38,3 +38,11 @@ heard-space ch (s ∷ ss) = go (eqb (s .recipients) 0) refl (heard-space ch ss)
         → spaceOf (delivered ch (heard (s ∷ ss))) ≡ spaceOf (delivered ch (s ∷ ss))
     go true e r = rw (e, eqb-true (s .recipients) 0 e, no-ones, zero-mul, zero-add) r
     go false e r = rw (e, r)
+
+-- ---- sends that are heard alike
+
+pub same-space : (ch : ℕ) (ss ts : List Send) → heard ss ≡ heard ts → spaceOf (delivered ch ss) ≡ spaceOf (delivered ch ts)
+same-space ch ss ts h = sym (heard-space ch ss) ∙ (ap (λ (l : List Send). spaceOf (delivered ch l)) h ∙ heard-space ch ts)
+
+pub same-records : (ds : List Desk) (ch : ℕ) (ss ts : List Send) → heard ss ≡ heard ts → recordsOf ds (delivered ch ss) ≡ recordsOf ds (delivered ch ts)
+same-records ds ch ss ts h = sym (heard-records ds ch ss) ∙ (ap (λ (l : List Send). recordsOf ds (delivered ch l)) h ∙ heard-records ds ch ts)

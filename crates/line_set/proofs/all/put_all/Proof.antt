@@ -11,7 +11,7 @@ use Rattle.channel.specs.declared.state.Event.{Event}
 use Rattle.set_rules.specs.State.{noChannel, channelsOf}
 use Rattle.set_rules.specs.declared.state.LineSet.{LineSet}
 use borrow.Author.Needs.{needs}
-use Rattle.line_set.proofs.Places.{count-is, at-taken}
+use Rattle.line_set.proofs.Seeking.{count-is, at-taken}
 use denote.Ref.{now}
 use Rattle.records.specs.Emitting.{written}
 use Rattle.records.proofs.Writing.{Writing, start, next, room, done}

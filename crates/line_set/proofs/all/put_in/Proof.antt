@@ -13,8 +13,10 @@ use Rattle.line_rules.specs.Scripts.{heard}
 use Rattle.records.specs.Emitting.{written}
 use Rattle.records.proofs.Writing.{written-none}
 use Rattle.set_rules.specs.Records.{delivered, recordsOf}
-use Rattle.line_set.specs.Steps.{contextIn, sendsIn}
-use Rattle.line_set.proofs.Emission.{same-records, nothing-sent}
+use Rattle.records.proofs.Heard.{same-records}
+use Rattle.changes.specs.Changes.{contextIn}
+use Rattle.line_set.specs.Steps.{sendsIn}
+use Rattle.line_set.proofs.Emission.{nothing-sent}
 use borrow.Author.Needs.{needs}
 use Rattle.line_set.proofs.all.put_in.Statement.{statement}
 use Rattle.line_set.proofs.all.put_in.Tie as tie

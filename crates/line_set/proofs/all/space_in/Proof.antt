@@ -8,8 +8,10 @@ use Rattle.channel.specs.State.{holderPlace}
 use Rattle.line_rules.specs.Rules.{happens}
 use Rattle.line_rules.specs.Scripts.{heard}
 use Rattle.set_rules.specs.Records.{delivered, spaceOf}
-use Rattle.line_set.specs.Steps.{contextIn, sendsIn}
-use Rattle.line_set.proofs.Emission.{same-space, nothing-sent}
+use Rattle.records.proofs.Heard.{same-space}
+use Rattle.changes.specs.Changes.{contextIn}
+use Rattle.line_set.specs.Steps.{sendsIn}
+use Rattle.line_set.proofs.Emission.{nothing-sent}
 use borrow.Author.Needs.{needs}
 use Rattle.line_set.proofs.all.space_in.Statement.{statement}
 use Rattle.line_set.proofs.all.space_in.Tie as tie

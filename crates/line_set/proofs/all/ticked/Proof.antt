@@ -15,7 +15,7 @@ use Rattle.set_rules.specs.declared.state.LineSet.{LineSet}
 use mathlib.Core.Logic.{inl, inr}
 use Rattle.set_rules.specs.Records.{spaceOf}
 use borrow.Author.Needs.{needs}
-use Rattle.line_set.proofs.Places.{count-is, at-taken}
+use Rattle.line_set.proofs.Seeking.{count-is, at-taken}
 use Rattle.line_set.proofs.Turns.{Summed, Ticked, sum-first, sum-silent, sum-last, sends-from, fall-next, tick-first, tick-at, tick-next, tick-kept, tick-last}
 use Rattle.line_set.proofs.all.ticked.Statement.{statement}
 use Rattle.line_set.proofs.all.ticked.Tie as tie
@@ -23,7 +23,7 @@ use Rattle.line_set.proofs.all.ticked.Reads as reads
 use Rattle.line_set.proofs.all.ticked.Lts as lts
 use Rattle.line_rules.proofs.falls.Reads as falls-reads
 use Rattle.line_rules.proofs.ticked.Reads as ticked-reads
-use Rattle.line_set.proofs.lookup.count_of.Reads as count-of-reads
+use Rattle.line_set.proofs.places.count_of.Reads as count-of-reads
 
 -- the first i channels are ticked, nothing else has changed, and where no timer ran out nothing is sent
 abbrev Inv : LineSet → ℕ → LineSet → Bool → ℕ → Type 0

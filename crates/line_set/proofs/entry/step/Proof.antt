@@ -9,18 +9,20 @@ use lib.Dec.{eqb}
 use lib.ListN.{length, length-map}
 use denote.Ref.{now}
 use borrow.Author.Tests.{eq-eqb, ne-eqb, eqb-true}
+use Rattle.fields.proofs.DigitLaws.{both}
 use Rattle.telegram.proofs.TelegramLaws.{part-to-end}
 use Rattle.channel.specs.declared.state.Channel.{Channel}
 use Rattle.set_rules.specs.State.{noChannel, channelsOf, placeOf}
 use Rattle.set_rules.specs.Entries.{readEntry}
 use Rattle.set_rules.specs.declared.state.Entry.{Entry}
+use Rattle.changes.proofs.Places.{any-default}
 use Rattle.line_set.specs.Steps.{planOutcome}
 use borrow.Author.Needs.{needs}
 use Rattle.line_set.proofs.ByKind.{tick-step, handover-step, plan-step, step-gives}
 use Rattle.line_set.proofs.Emission.{gives-as}
 use Rattle.line_set.proofs.Lengths.{long-enough, kind-read}
 use Rattle.line_set.proofs.OneStep.{finished}
-use Rattle.line_set.proofs.Places.{Sought, sought-first, sought-next, sought-found, sought-last, count-is, at-taken, any-default, both}
+use Rattle.line_set.proofs.Seeking.{Sought, sought-first, sought-next, sought-found, sought-last, count-is, at-taken}
 use Rattle.line_set.proofs.entry.step.Statement.{statement}
 use Rattle.line_set.proofs.entry.step.Tie as tie
 
@@ -95,7 +97,7 @@ returns-3 c =
     step-gives s e b (handover-step s e (readEntry e) (kind-read e (omega (arith, k))) (t .0) (length b) k) (c .before .before .hand-over .ensures)
 
 request-of-requires : tie.Need-request-of-requires Inv-loop μ-loop
-request-of-requires c κs = c .before .before .before .before .before .before .before .read-entry .ensures
+request-of-requires c κs = search needs
 
 count-of-requires : tie.Need-count-of-requires Inv-loop μ-loop
 count-of-requires c κs = search needs

@@ -1,0 +1,59 @@
+-- Laws on desks by their place, and on an entry's telegram.
+-- Assumes nothing.
+use Prim.Native.Nat.{ℕ, zero, suc, _+_, _<_, _/_, _%_}
+use mathlib.Core.List.{List, [], _∷_}
+use mathlib.Core.Bool.{Bool, true, false, _&&_, cond, and-comm}
+use mathlib.Core.Path.{_≡_, refl, sym, _∙_}
+use native.Mathlib.Omega.{arith}
+use lib.Dec.{eqb, ltb}
+use lib.ListN.{length, take, drop, getD, drop-of-length-le}
+use borrow.Author.Tests.{lt-ltb, ltb-true}
+use Rattle.channel.specs.State.{isIn}
+use Rattle.set_rules.specs.State.{isRunning, runningFrom}
+use Rattle.set_rules.specs.declared.state.Desk.{Desk}
+
+-- an element that is there, whatever stands for those that are not
+pub any-default : {A : Type 0} (xs : List A) (i : ℕ) (y z : A) → i < length xs → getD xs i y ≡ getD xs i z
+any-default [] i y z h = absurd (omega arith)
+any-default (x ∷ xs) zero y z h = refl
+any-default (x ∷ xs) (suc i) y z h = any-default xs i y z (omega arith)
+
+pub four : {A : Type 0} (xs : List A) (z : A) → length xs ≡ 4 → xs ≡ getD xs 0 z ∷ getD xs 1 z ∷ getD xs 2 z ∷ getD xs 3 z ∷ []
+four [] z h = absurd (omega arith)
+four (a ∷ []) z h = absurd (omega arith)
+four (a ∷ b ∷ []) z h = absurd (omega arith)
+four (a ∷ b ∷ c ∷ []) z h = absurd (omega arith)
+four (a ∷ b ∷ c ∷ d ∷ []) z h = refl
+four (a ∷ b ∷ c ∷ d ∷ e ∷ xs) z h = absurd (omega arith)
+
+take-none : (n : ℕ) → take {A = Desk} n [] ≡ []
+take-none zero = refl
+take-none (suc n) = refl
+
+-- a desk's place in a set, if it listens and is running
+abbrev share : Bool → Desk → ℕ → ℕ
+share t k p = cond (t && isRunning k) p 0
+
+-- the listeners, one desk after another
+pub shares : (a b c d : Desk) (n m : ℕ)
+    → share (ltb 0 n && eqb (m % 2) 1) a 1
+    + share (ltb 1 n && eqb (m / 2 % 2) 1) b 2
+    + share (ltb 2 n && eqb (m / 2 / 2 % 2) 1) c 4
+    + share (ltb 3 n && eqb (m / 2 / 2 / 2 % 2) 1) d 8
+    ≡ runningFrom 0 m (take n (a ∷ b ∷ c ∷ d ∷ []))
+unfolding runningFrom isIn
+shares a b c d zero m = refl
+shares a b c d (suc zero) m = rw (and-comm (isRunning a)) (omega arith)
+shares a b c d (suc (suc zero)) m = rw (and-comm (isRunning a), and-comm (isRunning b)) (omega arith)
+shares a b c d (suc (suc (suc zero))) m = rw (and-comm (isRunning a), and-comm (isRunning b), and-comm (isRunning c)) (omega arith)
+shares a b c d (suc (suc (suc (suc n)))) m =
+    let k : (i : ℕ) → i < 4 → ltb i (suc (suc (suc (suc n)))) ≡ true = λ i h. lt-ltb i _ (omega arith) in
+    rw (k 0 (omega arith), k 1 (omega arith), k 2 (omega arith), k 3 (omega arith), and-comm (isRunning a), and-comm (isRunning b), and-comm (isRunning c), and-comm (isRunning d), take-none n) (omega arith)
+
+-- from the fifth byte on, or from the end of fewer
+pub past-five : (e : List ℕ) → drop (cond (ltb (length e) 5) (length e) 5) e ≡ drop 5 e
+past-five e = go (ltb (length e) 5) refl
+  where
+    go : (t : Bool) → ltb (length e) 5 ≡ t → drop (cond (ltb (length e) 5) (length e) 5) e ≡ drop 5 e
+    go true k = rw k (drop-of-length-le e {i = length e} (omega arith) ∙ sym (drop-of-length-le e {i = 5} (omega (arith, ltb-true (length e) 5 k))))
+    go false k = rw k refl

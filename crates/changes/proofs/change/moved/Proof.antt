@@ -1,0 +1,32 @@
+-- `changes::change::moved` meets its contract: the rule, in the context of the set.
+-- Assumes nothing.
+use mathlib.Core.Path.{_≡_, ap, ap₂, _∙_}
+use Prim.Native.Nat.{ℕ}
+use Rattle.line_rules.specs.Rules.{Context, happens}
+use Rattle.line_rules.specs.Scripts.{heard, context}
+use Rattle.set_rules.specs.declared.state.Desk.{Desk}
+use Rattle.changes.specs.Changes.{contextIn}
+use borrow.Author.Needs.{needs}
+use Rattle.changes.proofs.change.moved.Statement.{statement}
+use Rattle.changes.proofs.change.moved.Tie as tie
+
+listeners-requires : tie.Need-listeners-requires
+listeners-requires c κs = search needs
+
+desk-at-requires : tie.Need-desk-at-requires
+desk-at-requires c κs = search needs
+
+happens-requires : tie.Need-happens-requires
+happens-requires c κs = search needs
+
+returns : tie.Need-returns
+returns c =
+    let st = c .before .before .before .before in
+    let x : context (c .before .before .before .listeners .result) (c .before .before .desk-at .result .number) ≡ contextIn (st .args .desks) (st .args .n) (st .args .c) (st .args .d) =
+    ap₂ (λ (e : ℕ) (k : Desk). context e (k .number)) (c .before .before .before .listeners .ensures) (c .before .before .desk-at .ensures) in (
+      c .happens .ensures .0 ∙ ap (λ (y : Context). happens (st .args .event) y (st .args .c) .next) x,
+      c .happens .ensures .1 ∙ ap (λ (y : Context). heard (happens (st .args .event) y (st .args .c) .sends)) x,
+    )
+
+pub moved-spec : {M : Type 1} → statement M
+moved-spec = tie.close (tie.spec listeners-requires desk-at-requires happens-requires returns)

@@ -1,0 +1,24 @@
+-- `changes::change::number_in` meets its contract, case by case.
+-- Assumes nothing.
+use mathlib.Core.Path.{refl}
+use borrow.Author.Needs.{needs}
+use Rattle.changes.proofs.change.number_in.Statement.{statement}
+use Rattle.changes.proofs.change.number_in.Tie as tie
+
+enum-known-number : tie.Need-enum-known-number
+enum-known-number c = search needs
+
+new-requires : tie.Need-new-requires
+new-requires c κs = search needs
+
+enum-told : tie.Need-enum-told
+enum-told c = search needs
+
+returns : tie.Need-returns
+returns c = rw (c .before .before .number .given .1) (c .new .ensures)
+
+returns-2 : tie.Need-returns-2
+returns-2 c = rw (c .enum-told .given .1) refl
+
+pub number-in-spec : {M : Type 1} → statement M
+number-in-spec = tie.close (tie.spec enum-known-number new-requires enum-told returns returns-2)

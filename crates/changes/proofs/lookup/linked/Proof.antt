@@ -1,0 +1,42 @@
+-- `changes::lookup::linked` meets its contract: past the last place nothing changes.
+-- Assumes nothing.
+use mathlib.Core.Path.{_≡_, sym, ap}
+use native.Mathlib.Omega.{arith}
+use lib.ListN.{length, set}
+use lib.Seq.{set-out}
+use Rattle.set_rules.specs.State.{noDesk, linked}
+use Rattle.set_rules.specs.declared.state.Desk.{Desk}
+use Rattle.set_rules.specs.declared.state.Link.{Link}
+use Rattle.changes.proofs.Places.{any-default}
+use borrow.Author.Needs.{needs}
+use Rattle.changes.proofs.lookup.linked.Statement.{statement}
+use Rattle.changes.proofs.lookup.linked.Tie as tie
+
+mul-desk : tie.Need-mul-desk
+mul-desk c = search needs
+
+array-copy-out-desk : tie.Need-array-copy-out-desk
+array-copy-out-desk c = search needs
+
+mul-after : tie.Need-mul-after
+mul-after c = search needs
+
+array-set-from-after : tie.Need-array-set-from-after
+array-set-from-after c = search needs
+
+returns : tie.Need-returns
+returns c =
+    let st = c .before .before .before in
+    let n : length (st .args .t1) ≡ 4 = search needs in
+    ap (λ (k : Desk). set (st .args .t1) (st .args .d) (linked (λ (l : Link). st .args .link) k)) (any-default (st .args .t1) (st .args .d) _ noDesk (omega (arith, n, c .before .before .if1 .taken)))
+
+returns-2 : tie.Need-returns-2
+returns-2 c =
+    let st = c .before in
+    let n : length (st .args .t1) ≡ 4 = search needs in
+    sym (set-out (st .args .t1) (st .args .d) _ (omega (arith, n)))
+
+pub linked-spec : {M : Type 1} → statement M
+linked-spec =
+    tie.close
+    (tie.spec mul-desk array-copy-out-desk mul-after array-set-from-after returns returns-2)

@@ -1,0 +1,41 @@
+-- `changes::request::unread_request` meets its contract, arm by arm.
+-- Assumes nothing.
+use mathlib.Core.Path.{_∙_, ap}
+use Prim.Native.Nat.{ℕ}
+use Rattle.changes.specs.Requests.{asksNothing}
+use borrow.Author.Needs.{needs}
+use Rattle.changes.proofs.request.unread_request.Statement.{statement}
+use Rattle.changes.proofs.request.unread_request.Tie as tie
+
+enum-known-reading : tie.Need-enum-known-reading
+enum-known-reading c = search needs
+
+asks-nothing-requires : tie.Need-asks-nothing-requires
+asks-nothing-requires c κs = search needs
+
+enum-known-reading-2 : tie.Need-enum-known-reading-2
+enum-known-reading-2 c = search needs
+
+unread-requires : tie.Need-unread-requires
+unread-requires c κs = search needs
+
+asks-nothing-requires-2 : tie.Need-asks-nothing-requires-2
+asks-nothing-requires-2 c κs = search needs
+
+returns : tie.Need-returns
+returns c = rw (c .before .before .reading .given .1) (c .asks-nothing .ensures)
+
+returns-2 : tie.Need-returns-2
+returns-2 c = rw (c .before .before .before .reading2 .given .1) (c .asks-nothing2 .ensures ∙ ap (λ (n : ℕ). asksNothing n) (c .before .unread .ensures))
+
+pub unread-request-spec : {M : Type 1} → statement M
+unread-request-spec =
+    tie.close
+    (tie.spec
+    enum-known-reading
+    asks-nothing-requires
+    enum-known-reading-2
+    unread-requires
+    asks-nothing-requires-2
+    returns
+    returns-2)

@@ -1,0 +1,3 @@
+pub mod Requests
+pub mod Judging
+pub mod Changes

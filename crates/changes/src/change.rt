@@ -1,0 +1,215 @@
+// What an entry about one channel or one desk changes: the desks and the channel, as they are after it.
+use super::judge;
+use super::lookup;
+use super::request::Request;
+use channel::Channel;
+use channel::Event;
+use channel::Moved;
+use fields::Digits;
+use records::Body;
+use set_rules::Desk;
+use set_rules::Entry;
+use telegram::Number;
+ghost use mathlib.Core.Path.{_≡_};
+ghost use mathlib.Core.Bool.{cond};
+ghost use lib.Dec.{eqb};
+ghost use lib.ListN.{length};
+ghost use Rattle.line_rules.specs.Rules.{happens};
+ghost use Rattle.line_rules.specs.Scripts.{heard};
+ghost use Rattle.set_rules.specs.SetRules.{numberIn};
+ghost use Rattle.changes.specs.Changes.{Makes, contextIn, eventOf, unchanged, emitIn, onOne, timeIn, answerIn, lineIn, requestOn, changeIn};
+
+// The channel and the desks after an entry, the bytes written, and the refusal number. A refusal changes nothing.
+pub struct Change {
+    pub channel: Channel,
+    pub desks: [Desk; 4],
+    pub count: usize,
+    pub refusal: u8,
+}
+
+fn refuse(desks: [Desk; 4], channel: Channel, refusal: u8) -> Change
+    ensures { λ r. ⌜ r ≡ unchanged desks channel refusal ⌝ }
+{
+    Change {
+        channel,
+        desks,
+        count: 0,
+        refusal,
+    }
+}
+
+// An event on a channel. Desk d holds the channel or asks for it.
+pub fn moved(desks: [Desk; 4], n: u8, d: u8, event: Event, c: Channel) -> Moved
+    ensures { λ r. ⌜ (r .next ≡ happens event (contextIn desks n c d) c .next) × (heard (r .sends) ≡ heard (happens event (contextIn desks n c d) c .sends)) ⌝ }
+{
+    let listeners = lookup::listeners(desks, n, c.entitled);
+    let desk = lookup::desk_at(desks, d);
+    let own = desk.number;
+    line_rules::happens(event, listeners, own, c)
+}
+
+// An event on the channel, and its records if there is room.
+fn on_channel(desks: [Desk; 4], n: u8, d: u8, event: Event, c: Channel, buffer: &mut [u8]) -> Change
+    ensures { λ r. ⌜ Makes (emitIn desks c (onOne desks n d event c) (length (now (buffer .entry)))) r (now (buffer .entry)) (now (buffer .exit)) ⌝ }
+{
+    let m = moved(desks, n, d, event, c);
+    let sends = m.sends;
+    let need = records::space(sends);
+    if buffer.len() < need {
+        return refuse(desks, c, 16);
+    }
+    let end = records::put(buffer, 0, desks, c.code, sends);
+    let next = m.next;
+    Change {
+        channel: next,
+        desks,
+        count: need,
+        refusal: 0,
+    }
+}
+
+fn number_in(number: Digits) -> Number
+    ensures { λ r. ⌜ r ≡ numberIn number ⌝ }
+{
+    match number {
+        Digits::Value(v) => Number::new(v),
+        Digits::Malformed => Number::NONE,
+    }
+}
+
+// What an entry that is no telegram makes happen.
+fn event_of(x: Entry) -> Event
+    ensures { λ r. ⌜ r ≡ eventOf x ⌝ }
+{
+    let kind = x.kind;
+    match kind {
+        2 => {
+            if x.on == 1 {
+                Event::PressOn
+            } else {
+                Event::PressOff
+            }
+        }
+        3 => Event::Cut,
+        4 => {
+            let digits = x.number;
+            let number = number_in(digits);
+            Event::MobileOn {
+                base: x.base as u16,
+                number,
+            }
+        }
+        _ => Event::MobileOff,
+    }
+}
+
+// A press, a cut, a mobile on or off.
+fn line(desks: [Desk; 4], n: u8, x: Entry, found: bool, c: Channel, buffer: &mut [u8]) -> Change
+    ensures { λ r. ⌜ Makes (lineIn desks n x found c (length (now (buffer .entry)))) r (now (buffer .entry)) (now (buffer .exit)) ⌝ }
+{
+    let desk = lookup::desk_at(desks, x.desk);
+    let refusal = judge::judge_line(x, x.desk < n, desk.link.phase, found, c);
+    if refusal != 0 {
+        return refuse(desks, c, refusal);
+    }
+    let holder = c.holder;
+    let d = channel::holder_place(holder);
+    let event = event_of(x);
+    on_channel(desks, n, d, event, c, buffer)
+}
+
+// 550411: the operation request goes out, and the link's next phase is the second.
+fn time_told(desks: [Desk; 4], d: u8, c: Channel, buffer: &mut [u8]) -> Change
+    ensures { λ r. ⌜ Makes (emitIn desks c (timeIn desks d c) (length (now (buffer .entry)))) r (now (buffer .entry)) (now (buffer .exit)) ⌝ }
+{
+    let recipients = channel::only(d);
+    let need = records::space_to(recipients, Body::OperationRequest);
+    if buffer.len() < need {
+        return refuse(desks, c, 16);
+    }
+    let end = records::put_to(buffer, 0, desks, recipients, Body::OperationRequest);
+    let desk = lookup::desk_at(desks, d);
+    let link = desk.link.time_told();
+    let after = lookup::linked(desks, d, link);
+    Change {
+        channel: c,
+        desks: after,
+        count: need,
+        refusal: 0,
+    }
+}
+
+// 550421: nothing is sent.
+fn answered(desks: [Desk; 4], d: u8, state: u32, c: Channel, buffer: &mut [u8]) -> Change
+    ensures { λ r. ⌜ Makes (emitIn desks c (answerIn desks d state c) (length (now (buffer .entry)))) r (now (buffer .entry)) (now (buffer .exit)) ⌝ }
+{
+    let desk = lookup::desk_at(desks, d);
+    let link = desk.link.answered(state);
+    let after = lookup::linked(desks, d, link);
+    Change {
+        channel: c,
+        desks: after,
+        count: 0,
+        refusal: 0,
+    }
+}
+
+// A capture request's order: 1 captures, 0 releases.
+fn ordered(d: u8, order: u32) -> Event
+    ensures { λ r. ⌜ r ≡ cond (eqb order 1) (Event.Capture d) (Event.Release d) ⌝ }
+{
+    if order == 1 {
+        Event::Capture(d)
+    } else {
+        Event::Release(d)
+    }
+}
+
+// What desk d asks by telegram.
+fn on_request(
+    desks: [Desk; 4],
+    n: u8,
+    d: u8,
+    q: Request,
+    found: bool,
+    c: Channel,
+    buffer: &mut [u8],
+) -> Change
+    ensures { λ r. ⌜ Makes (requestOn desks n d q found c (length (now (buffer .entry)))) r (now (buffer .entry)) (now (buffer .exit)) ⌝ }
+{
+    let desk = lookup::desk_at(desks, d);
+    let refusal = judge::judge_request(q, d, desk, found, c);
+    if refusal != 0 {
+        return refuse(desks, c, refusal);
+    }
+    let identifier = q.identifier;
+    match identifier {
+        550411 => time_told(desks, d, c, buffer),
+        550421 => answered(desks, d, q.flag, c, buffer),
+        _ => {
+            let event = ordered(d, q.flag);
+            on_channel(desks, n, d, event, c, buffer)
+        }
+    }
+}
+
+// An entry about one channel or one desk. `found` says whether the plan has the channel that it names; if not, c is any.
+pub fn change_of(
+    desks: [Desk; 4],
+    n: u8,
+    x: Entry,
+    q: Request,
+    found: bool,
+    c: Channel,
+    buffer: &mut [u8],
+) -> Change
+    ensures { λ r. ⌜ Makes (changeIn desks n x q found c (length (now (buffer .entry)))) r (now (buffer .entry)) (now (buffer .exit)) ⌝ }
+{
+    if x.kind == 1 {
+        return on_request(desks, n, x.desk, q, found, c, buffer);
+    }
+    if q.refusal != 0 {
+        return refuse(desks, c, q.refusal);
+    }
+    line(desks, n, x, found, c, buffer)
+}

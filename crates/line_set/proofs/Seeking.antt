@@ -1,0 +1,71 @@
+-- Laws on finding channels by their place.
+-- Assumes nothing.
+use Prim.Native.Nat.{ℕ, zero, suc, _+_, _≤_, _<_}
+use mathlib.Core.List.{List, [], _∷_}
+use mathlib.Core.Bool.{Bool, true, false, cond}
+use mathlib.Core.Path.{_≡_, refl, sym, ap}
+use native.Mathlib.Omega.{arith}
+use native.Mathlib.Nat.{zero-add}
+use native.Mathlib.Numerals.{add-one}
+use lib.Dec.{eqb, ltb}
+use lib.ListN.{length, take, drop, getD, drop-of-length-le}
+use lib.Seq.{drop-cons, length-take-le, take-all}
+use borrow.Author.Tests.{ltb-true, ltb-false}
+use Rattle.channel.specs.declared.state.Channel.{Channel}
+use Rattle.set_rules.specs.State.{placeOf}
+
+-- an element among the first n
+pub at-taken : {A : Type 0} (xs : List A) (n i : ℕ) (y z : A) → i < length (take n xs) → getD (take n xs) i y ≡ getD xs i z
+at-taken xs zero i y z h = absurd (omega arith)
+at-taken [] (suc n) i y z h = absurd (omega arith)
+at-taken (x ∷ xs) (suc n) zero y z h = refl
+at-taken (x ∷ xs) (suc n) (suc i) y z h = at-taken xs n i y z (omega arith)
+
+-- ---- as many as a plan has
+
+pub take-count : {A : Type 0} (n : ℕ) (xs : List A) → take (length (take n xs)) xs ≡ take n xs
+take-count zero xs = refl
+take-count (suc n) [] = refl
+take-count (suc n) (x ∷ xs) = ap (λ (l : List _). x ∷ l) (take-count n xs)
+
+pub drop-count : {A : Type 0} (n : ℕ) (xs : List A) → drop (length (take n xs)) xs ≡ drop n xs
+drop-count zero xs = refl
+drop-count (suc n) [] = refl
+drop-count (suc n) (x ∷ xs) = drop-count n xs
+
+-- ---- the place of a code
+
+-- how many of 32 are the first n
+pub count-is : {A : Type 0} (xs : List A) (n : ℕ) → length xs ≡ 32 → cond (ltb 32 n) 32 n ≡ length (take n xs)
+count-is xs n l = go (ltb 32 n) refl
+  where
+    go : (t : Bool) → ltb 32 n ≡ t → cond (ltb 32 n) 32 n ≡ length (take n xs)
+    go true k = rw (k, take-all n xs (omega (arith, ltb-true 32 n k))) (sym l)
+    go false k = rw k (sym (length-take-le n xs (omega (arith, ltb-false 32 n k))))
+
+module _ (code : ℕ) (cs : List Channel) where
+  -- the channels before place i have another code
+  pub record Sought (i : ℕ) : Type 0 where
+    pub place : placeOf code cs ≡ i + placeOf code (drop i cs)
+    pub within : i ≤ length cs
+
+  pub sought-first : Sought 0
+  sought-first = record { place = sym (zero-add _); within = omega arith }
+
+  pub sought-next : (i : ℕ) (z : Channel) → i < length cs → eqb (getD cs i z .code) code ≡ false → Sought i → Sought (i + 1)
+  unfolding placeOf
+  sought-next i z h ne s =
+      let e : placeOf code (drop i cs) ≡ 1 + placeOf code (drop (i + 1) cs) = rw (drop-cons cs i z h, ne, add-one) refl in
+      record { place = omega (arith, s .place, e); within = omega arith }
+
+  pub sought-found : (i : ℕ) (z : Channel) → i < length cs → eqb (getD cs i z .code) code ≡ true → Sought i → i ≡ placeOf code cs
+  unfolding placeOf
+  sought-found i z h eq s =
+      let e : placeOf code (drop i cs) ≡ 0 = rw (drop-cons cs i z h, eq) refl in
+      omega (arith, s .place, e)
+
+  pub sought-last : (i : ℕ) → length cs ≤ i → Sought i → i ≡ placeOf code cs
+  unfolding placeOf
+  sought-last i h s =
+      let e : placeOf code (drop i cs) ≡ 0 = rw (drop-of-length-le cs h) refl in
+      omega (arith, s .place, e)
