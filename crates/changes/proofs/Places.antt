@@ -12,12 +12,6 @@ use Rattle.channel.specs.State.{isIn}
 use Rattle.set_rules.specs.State.{isRunning, runningFrom}
 use Rattle.set_rules.specs.declared.state.Desk.{Desk}
 
--- an element that is there, whatever stands for those that are not
-pub any-default : {A : Type 0} (xs : List A) (i : ℕ) (y z : A) → i < length xs → getD xs i y ≡ getD xs i z
-any-default [] i y z h = absurd (omega arith)
-any-default (x ∷ xs) zero y z h = refl
-any-default (x ∷ xs) (suc i) y z h = any-default xs i y z (omega arith)
-
 pub four : {A : Type 0} (xs : List A) (z : A) → length xs ≡ 4 → xs ≡ getD xs 0 z ∷ getD xs 1 z ∷ getD xs 2 z ∷ getD xs 3 z ∷ []
 four [] z h = absurd (omega arith)
 four (a ∷ []) z h = absurd (omega arith)

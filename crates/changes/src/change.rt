@@ -43,7 +43,7 @@ pub fn moved(desks: [Desk; 4], n: u8, d: u8, event: Event, c: Channel) -> Moved
     ensures { λ r. ⌜ (r .next ≡ happens event (contextIn desks n c d) c .next) × (heard (r .sends) ≡ heard (happens event (contextIn desks n c d) c .sends)) ⌝ }
 {
     let listeners = lookup::listeners(desks, n, c.entitled);
-    let desk = lookup::desk_at(desks, d);
+    let desk = set_rules::desk_at(desks, d);
     let own = desk.number;
     line_rules::happens(event, listeners, own, c)
 }
@@ -107,7 +107,7 @@ fn event_of(x: Entry) -> Event
 fn line(desks: [Desk; 4], n: u8, x: Entry, found: bool, c: Channel, buffer: &mut [u8]) -> Change
     ensures { λ r. ⌜ Makes (lineIn desks n x found c (length (now (buffer .entry)))) r (now (buffer .entry)) (now (buffer .exit)) ⌝ }
 {
-    let desk = lookup::desk_at(desks, x.desk);
+    let desk = set_rules::desk_at(desks, x.desk);
     let refusal = judge::judge_line(x, x.desk < n, desk.link.phase, found, c);
     if refusal != 0 {
         return refuse(desks, c, refusal);
@@ -128,7 +128,7 @@ fn time_told(desks: [Desk; 4], d: u8, c: Channel, buffer: &mut [u8]) -> Change
         return refuse(desks, c, 16);
     }
     let end = records::put_to(buffer, 0, desks, recipients, Body::OperationRequest);
-    let desk = lookup::desk_at(desks, d);
+    let desk = set_rules::desk_at(desks, d);
     let link = desk.link.time_told();
     let after = lookup::linked(desks, d, link);
     Change {
@@ -143,7 +143,7 @@ fn time_told(desks: [Desk; 4], d: u8, c: Channel, buffer: &mut [u8]) -> Change
 fn answered(desks: [Desk; 4], d: u8, state: u32, c: Channel, buffer: &mut [u8]) -> Change
     ensures { λ r. ⌜ Makes (emitIn desks c (answerIn desks d state c) (length (now (buffer .entry)))) r (now (buffer .entry)) (now (buffer .exit)) ⌝ }
 {
-    let desk = lookup::desk_at(desks, d);
+    let desk = set_rules::desk_at(desks, d);
     let link = desk.link.answered(state);
     let after = lookup::linked(desks, d, link);
     Change {
@@ -177,7 +177,7 @@ fn on_request(
 ) -> Change
     ensures { λ r. ⌜ Makes (requestOn desks n d q found c (length (now (buffer .entry)))) r (now (buffer .entry)) (now (buffer .exit)) ⌝ }
 {
-    let desk = lookup::desk_at(desks, d);
+    let desk = set_rules::desk_at(desks, d);
     let refusal = judge::judge_request(q, d, desk, found, c);
     if refusal != 0 {
         return refuse(desks, c, refusal);

@@ -1,27 +1,12 @@
 // Desks by their place in the plan.
 use set_rules::Desk;
 use set_rules::Link;
-use telegram::Number;
 ghost use mathlib.Core.Path.{_≡_};
 ghost use mathlib.Core.Bool.{_&&_, cond};
 ghost use Prim.Native.Nat.{_≤_};
-ghost use lib.ListN.{getD, take};
-ghost use Rattle.set_rules.specs.State.{noDesk, isRunning, runningFrom};
+ghost use lib.ListN.{take};
+ghost use Rattle.set_rules.specs.State.{isRunning, runningFrom};
 ghost use Rattle.changes.specs.Changes.{linkedAt};
-
-pub fn desk_at(desks: [Desk; 4], d: u8) -> Desk
-    ensures { λ r. ⌜ r ≡ getD desks d noDesk ⌝ }
-{
-    let i = d as usize;
-    if i < 4 {
-        return desks[i];
-    }
-    Desk {
-        code: 0,
-        number: Number::NONE,
-        link: Link { phase: 1 },
-    }
-}
 
 // A desk's place in a set of desks, if it listens there.
 fn place_if(listens: bool, desk: Desk, place: u8) -> u8

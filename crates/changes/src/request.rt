@@ -1,5 +1,4 @@
 // What an entry asks of the set about one channel or one desk. Only here is a whole message taken apart.
-use super::lookup;
 use set_rules::Desk;
 use set_rules::Entry;
 use telegram::Message;
@@ -142,7 +141,7 @@ pub fn request_of(x: Entry, planned: bool, entry: &[u8], desks: [Desk; 4], n: u8
     if n <= x.desk {
         return asks_nothing(7);
     }
-    let desk = lookup::desk_at(desks, x.desk);
+    let desk = set_rules::desk_at(desks, x.desk);
     let start = telegram_start(entry.len());
     read_request(&entry[start..], desk.code)
 }

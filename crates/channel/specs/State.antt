@@ -1,5 +1,5 @@
 -- What 01's line rules ask of the state of one channel, and a channel on which nothing goes on.
-use Prim.Native.Nat.{ℕ, zero, suc, _/_, _%_, _^_}
+use Prim.Native.Nat.{ℕ, zero, suc, _-_, _/_, _%_, _^_}
 use mathlib.Core.Bool.{Bool, true, false, cond}
 use lib.Dec.{ltb, eqb}
 use Rattle.channel.specs.declared.state.Holder.{Holder}
@@ -12,6 +12,10 @@ use Rattle.channel.specs.declared.state.Channel.{Channel}
 -- the set of one desk; a set has eight places
 abbrev pub only : ℕ → ℕ
 only d = cond (ltb d 8) (2 ^ d) 0
+
+-- the set of the first n desks
+abbrev pub firstDesks : ℕ → ℕ
+firstDesks n = cond (ltb n 8) (2 ^ n - 1) 255
 
 -- a desk is in a set
 unfoldable pub isIn : ℕ → ℕ → Bool

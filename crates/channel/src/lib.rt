@@ -2,6 +2,7 @@
 mod queries;
 mod state;
 
+pub use queries::first_desks;
 pub use queries::held_by;
 pub use queries::holder_place;
 pub use queries::is_in;

@@ -2,13 +2,20 @@
 use super::state::Arrival;
 use super::state::Holder;
 ghost use mathlib.Core.Path.{_≡_};
-ghost use Rattle.channel.specs.State.{only, isIn, heldBy, holderPlace, isPresent};
+ghost use Rattle.channel.specs.State.{only, firstDesks, isIn, heldBy, holderPlace, isPresent};
 
 // The set of one desk.
 pub fn only(d: u8) -> u8
     ensures { λ r. ⌜ r ≡ only d ⌝ }
 {
     if d < 8 { 1 << d } else { 0 }
+}
+
+// The set of the first n desks.
+pub fn first_desks(n: u8) -> u8
+    ensures { λ r. ⌜ r ≡ firstDesks n ⌝ }
+{
+    if n < 8 { (1 << n) - 1 } else { 255 }
 }
 
 // Whether a desk is in a set. A set has eight places.

@@ -1,6 +1,6 @@
 -- One turn of the loops that read the desks and the channels of a plan: the item at i, and those after it.
 -- Assumes nothing.
-use Prim.Native.Nat.{ℕ, zero, suc, _+_, _-_, _^_, _≤_, _<_}
+use Prim.Native.Nat.{ℕ, zero, suc, _+_, _-_, _≤_, _<_}
 use mathlib.Core.List.{List, [], _∷_}
 use mathlib.Core.Bool.{true, _&&_}
 use mathlib.Core.Path.{_≡_, refl, ap}
@@ -12,7 +12,7 @@ use lib.Dec.{leb}
 use borrow.Author.Tests.{leb-true}
 use Rattle.fields.specs.Fields.{between}
 use Rattle.fields.proofs.DigitLaws.{both}
-use Rattle.channel.specs.State.{freeChannel}
+use Rattle.channel.specs.State.{freeChannel, firstDesks}
 use Rattle.set_rules.specs.Plan.{deskOk, desksOk, desksIn, channelsOk, channelsIn}
 use Rattle.entries.specs.Planned.{deskOf}
 
@@ -43,7 +43,7 @@ module _ (n i : ℕ) (h : i < n) where
 
   pub channels-ok-at : (s : List ℕ) (at low desks : ℕ)
       → channelsOk (n - i) low desks (drop at s)
-      ≡ (between low 99 (getD s at 0) && between 1 (2 ^ desks - 1) (getD s (at + 1) 0)
+      ≡ (between low 99 (getD s at 0) && between 1 (firstDesks desks) (getD s (at + 1) 0)
       && channelsOk (n - (i + 1)) (getD s at 0 + 1) desks (drop (at + 2) s))
   unfolding channelsOk
   channels-ok-at s at low desks = rw (left, ← drop-drop 2 at s) (simp (getD-drop, add-zero))

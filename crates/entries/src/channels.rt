@@ -2,7 +2,7 @@
 use channel::Channel;
 ghost use mathlib.Core.Path.{_≡_};
 ghost use mathlib.Core.Bool.{_&&_};
-ghost use Prim.Native.Nat.{_*_, _-_, _^_, _≤_};
+ghost use Prim.Native.Nat.{_*_, _≤_};
 ghost use lib.ListN.{length};
 ghost use Rattle.fields.specs.Fields.{between};
 ghost use Rattle.entries.specs.Planned.{noChannels, channelsRead};
@@ -23,14 +23,6 @@ fn no_channels() -> Channels
     }
 }
 
-// The mask of all desks.
-fn all_desks(desks: u8) -> u8
-    requires { ⌜ desks ≤ 4 ⌝ }
-    ensures { λ r. ⌜ r ≡ 2 ^ desks - 1 ⌝ }
-{
-    (1u8 << desks) - 1
-}
-
 // Whether a code is neither too low nor too high, and a mask has a desk and none that is not among `all`.
 fn is_channel(low: u8, code: u8, all: u8, mask: u8) -> bool
     ensures { λ r. ⌜ r ≡ (between low 99 code && between 1 all mask) ⌝ }
@@ -40,10 +32,10 @@ fn is_channel(low: u8, code: u8, all: u8, mask: u8) -> bool
 
 // Reads n channels of a plan with so many desks. The codes rise, so each makes the next one's `low`.
 pub fn read_channels(s: &[u8], n: usize, desks: u8) -> Channels
-    requires { ⌜ (n ≤ 32) × (2 * n ≤ length (now s)) × (desks ≤ 4) ⌝ }
+    requires { ⌜ (n ≤ 32) × (2 * n ≤ length (now s)) ⌝ }
     ensures { λ r. ⌜ r ≡ channelsRead n desks (now (s .entry)) ⌝ }
 {
-    let all = all_desks(desks);
+    let all = channel::first_desks(desks);
     let filler = Channel::new(0, 0);
     let mut channels = [filler; 32];
     let mut low: u8 = 0;

@@ -1,15 +1,12 @@
 -- Plans and requests: which outcome each test of the code leads to.
 -- Assumes nothing.
-use Prim.Native.Nat.{ℕ, _≤_}
+use Prim.Native.Nat.{ℕ}
 use mathlib.Core.List.{List}
 use mathlib.Core.Bool.{Bool, true, false, cond}
 use mathlib.Core.Path.{_≡_, refl, sym, ap, _∙_}
-use lib.Dec.{leb}
-use borrow.Author.Tests.{leb-true}
-use Rattle.fields.proofs.DigitLaws.{both}
 use Rattle.entries.specs.Planned.{planOf}
 use Rattle.set_rules.specs.State.{hasDesk, deskAt, hasChannel, channelAt}
-use Rattle.set_rules.specs.Plan.{deskCount, planOk, setOf}
+use Rattle.set_rules.specs.Plan.{planOk, setOf}
 use Rattle.set_rules.specs.SetRules.{onPlan}
 use Rattle.set_rules.specs.Feeds.{refuse, emit}
 use Rattle.set_rules.specs.declared.state.LineSet.{LineSet}
@@ -47,12 +44,6 @@ plan-ok p = go (planOk p) refl
 pub plan-set : (p : List ℕ) → planOk p ≡ true → planOf p .set ≡ setOf p
 unfolding planOf
 plan-set p k = rw k
-
--- a plan has at most four desks
-pub desks-few : (p : List ℕ) → planOk p ≡ true → setOf p .size .desks ≤ 4
-unfolding planOk setOf
-desks-few p h =
-    leb-true (deskCount p) 4 (both (leb 1 (deskCount p)) _ (both _ _ (both _ _ (both _ _ (both _ _ (both _ _ h .0) .0) .0) .0) .0) .1)
 
 -- ---- requests
 

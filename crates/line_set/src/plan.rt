@@ -4,23 +4,8 @@ use records::Body;
 use set_rules::Answer;
 use set_rules::LineSet;
 ghost use mathlib.Core.Path.{_≡_};
-ghost use Prim.Native.Nat.{_-_, _≤_, _^_};
 ghost use lib.ListN.{length};
 ghost use Rattle.line_set.specs.Steps.{Gives, planOutcome};
-
-// The first n desks, as a set.
-fn first(n: u8) -> u8
-    requires { ⌜ n ≤ 4 ⌝ }
-    ensures { λ r. ⌜ r ≡ 2 ^ n - 1 ⌝ }
-{
-    match n {
-        0 => 0,
-        1 => 1,
-        2 => 3,
-        3 => 7,
-        _ => 15,
-    }
-}
 
 pub fn plan(set: LineSet, bytes: &[u8], buffer: &mut [u8]) -> Answer
     ensures { λ r. ⌜ Gives (planOutcome set (now (bytes .entry)) (length (now (buffer .entry)))) r (now (buffer .entry)) (now (buffer .exit)) ⌝ }
@@ -34,7 +19,7 @@ pub fn plan(set: LineSet, bytes: &[u8], buffer: &mut [u8]) -> Answer
     }
     let next = p.set;
     let desks = next.desks;
-    let recipients = first(next.size.desks);
+    let recipients = channel::first_desks(next.size.desks);
     let need = records::space_to(recipients, Body::TimeRequest);
     if buffer.len() < need {
         return answer::refuse(set, 16);

@@ -7,21 +7,9 @@ use set_rules::Desk;
 ghost use mathlib.Core.Path.{_≡_};
 ghost use mathlib.Core.List.{[], _∷_};
 ghost use Prim.Native.Nat.{_+_, _≤_, _<_};
-ghost use lib.ListN.{length, getD};
-ghost use Rattle.set_rules.specs.State.{noDesk};
+ghost use lib.ListN.{length};
 ghost use Rattle.set_rules.specs.Records.{recordFor, recordsOf, delivered};
 ghost use Rattle.records.specs.Emitting.{written, bodyFor, delivery, deliveryOf, headBytes, toOne};
-
-// The organisation code of a desk.
-fn code_at(desks: [Desk; 4], d: u8) -> u32
-    ensures { λ r. ⌜ r ≡ getD desks d noDesk .code ⌝ }
-{
-    let i = d as usize;
-    if i < 4 {
-        return desks[i].code;
-    }
-    0
-}
 
 // The head of a record: how many bytes follow the length, the version, the desk, and what kind of content it is.
 fn put_head(buffer: &mut [u8], size: usize, d: u8, kind: u8)
@@ -42,9 +30,9 @@ fn put_record(buffer: &mut [u8], desks: [Desk; 4], d: u8, body: Body) -> usize
 {
     let size = measure::record_size(body);
     let kind = content::kind_of(body);
-    let code = code_at(desks, d);
+    let desk = set_rules::desk_at(desks, d);
     put_head(buffer, size - 2, d, kind);
-    content::put_body(&mut buffer[5..], code, d, body);
+    content::put_body(&mut buffer[5..], desk.code, d, body);
     size
 }
 

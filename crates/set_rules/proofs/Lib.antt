@@ -3,6 +3,7 @@ pub mod Answers
 pub mod Received
 pub mod Isolation
 pub mod Witness
+pub mod Elements
 pub mod Each
 pub mod Rows
 pub mod Ticks

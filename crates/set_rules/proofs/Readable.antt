@@ -20,7 +20,7 @@ use Rattle.telegram.specs.declared.message.Message.the-variants.{TimeRequest, O
 use Rattle.telegram.specs.declared.message.Reading.{Reading}
 use Rattle.telegram.specs.declared.message.Reading.the-variants.{Telegram, Refused}
 use Rattle.telegram.proofs.RoundTrip.{reads-back}
-use Rattle.channel.specs.State.{only, holderPlace}
+use Rattle.channel.specs.State.{only, firstDesks, holderPlace}
 use Rattle.line_rules.specs.Rules.{Step, happens}
 use Rattle.line_rules.specs.Notices.{Content, telegram, contact, contentFor}
 use Rattle.channel.specs.declared.state.Channel.{Channel}
@@ -189,8 +189,8 @@ channels-in : (n low desks : ℕ) (b : List ℕ) → channelsOk n low desks b �
 unfolding channelsOk channelsIn
 channels-in zero low desks b h = tt
 channels-in (suc n) low desks b h =
-    let a = both (between low 99 (byte b 0) && between 1 (2 ^ desks - 1) (byte b 1)) (channelsOk n (byte b 0 + 1) desks (drop 2 b)) h in
-    let f = both (between low 99 (byte b 0)) (between 1 (2 ^ desks - 1) (byte b 1)) (a .0) in
+    let a = both (between low 99 (byte b 0) && between 1 (firstDesks desks) (byte b 1)) (channelsOk n (byte b 0 + 1) desks (drop 2 b)) h in
+    let f = both (between low 99 (byte b 0)) (between 1 (firstDesks desks) (byte b 1)) (a .0) in
     let g = both (leb low (byte b 0)) (leb (byte b 0) 99) (f .0) in
     (record { code-ok = leb-true _ _ (g .1); call-ok = tt; arrival-ok = tt }, channels-in n (byte b 0 + 1) desks (drop 2 b) (a .1))
 
@@ -205,7 +205,7 @@ plan-ok p h =
     let cs = channels-in (channelCount p) 0 (deskCount p) (channelsPart p) (a .1) in
     let d = each-append DeskOk (desksIn (deskCount p) (desksPart p)) _ ds (no-desks (4 - length (desksIn (deskCount p) (desksPart p)))) in
     let c = each-append ChannelOk (channelsIn (channelCount p) (channelsPart p)) _ cs (no-channels (32 - length (channelsIn (channelCount p) (channelsPart p)))) in
-    record { set-ok = record { desks-ok = d; channels-ok = c }; sent-ok = plain-reads (setOf p .desks) d (2 ^ deskCount p - 1) TimeRequest refl }
+    record { set-ok = record { desks-ok = d; channels-ok = c }; sent-ok = plain-reads (setOf p .desks) d (firstDesks (deskCount p)) TimeRequest refl }
 
 -- ---- what an entry asks for
 

@@ -1,5 +1,5 @@
 -- 01, Line rules: what an accepted entry does to the set, and what it sends.
-use Prim.Native.Nat.{ℕ, _-_, _^_}
+use Prim.Native.Nat.{ℕ}
 use mathlib.Core.List.{List, [], _∷_, _++_}
 use mathlib.Core.Bool.{Bool, true, false, cond}
 use lib.Dec.{eqb}
@@ -12,7 +12,7 @@ use Rattle.telegram.specs.declared.message.Message.{Message}
 use Rattle.telegram.specs.declared.message.Message.the-variants.{TimeRequest, OperationRequest}
 use Rattle.telegram.specs.declared.message.Reading.{Reading}
 use Rattle.telegram.specs.declared.message.Reading.the-variants.{Telegram, Refused}
-use Rattle.channel.specs.State.{only, holderPlace}
+use Rattle.channel.specs.State.{only, firstDesks, holderPlace}
 use Rattle.line_rules.specs.Rules.{Context, Step, happens}
 use Rattle.line_rules.specs.Notices.{telegram}
 use Rattle.channel.specs.declared.state.Channel.{Channel}
@@ -90,7 +90,7 @@ onHandover s = effect s newSet (sendsOf s Handover (channelsOf s))
 
 -- "Accepting a plan sends 550461 to each desk."
 abbrev pub onPlan : List ℕ → Effect
-onPlan p = effect (setOf p) (setOf p) (telegramTo (2 ^ setOf p .size .desks - 1) TimeRequest)
+onPlan p = effect (setOf p) (setOf p) (telegramTo (firstDesks (setOf p .size .desks)) TimeRequest)
 
 -- a desk's telegram, by its identifier; a 550600 has the channel, then its order, 1 to capture and 0 to release
 abbrev pub onMessage : LineSet → ℕ → ℕ → List ℕ → Effect

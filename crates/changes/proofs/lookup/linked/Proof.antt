@@ -7,7 +7,7 @@ use lib.Seq.{set-out}
 use Rattle.set_rules.specs.State.{noDesk, linked}
 use Rattle.set_rules.specs.declared.state.Desk.{Desk}
 use Rattle.set_rules.specs.declared.state.Link.{Link}
-use Rattle.changes.proofs.Places.{any-default}
+use Rattle.set_rules.proofs.Elements.{any-default}
 use borrow.Author.Needs.{needs}
 use Rattle.changes.proofs.lookup.linked.Statement.{statement}
 use Rattle.changes.proofs.lookup.linked.Tie as tie

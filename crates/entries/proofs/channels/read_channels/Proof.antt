@@ -1,7 +1,7 @@
 -- `entries::channels::read_channels` meets its contract. The invariant: the channels are right exactly when those from `i` on
 -- are, and the array then lacks only these.
 -- Assumes nothing.
-use Prim.Native.Nat.{_+_, _*_, _-_, _^_, _≤_, _<_}
+use Prim.Native.Nat.{_+_, _*_, _-_, _≤_, _<_}
 use mathlib.Core.Bool.{true, false, _&&_}
 use mathlib.Core.Path.{_≡_, sym, _∙_}
 use native.Mathlib.Omega.{arith}
@@ -11,6 +11,7 @@ use lib.ListN.{length, drop, getD, length-set}
 use lib.Seq.{sets}
 use borrow.Author.Tests.{not-true, not-false}
 use Rattle.fields.specs.Fields.{between}
+use Rattle.channel.specs.State.{firstDesks}
 use Rattle.set_rules.specs.State.{noChannel}
 use Rattle.set_rules.specs.Plan.{channelsOk, channelsIn, filled}
 use Rattle.entries.specs.Planned.{channelsRead}
@@ -31,8 +32,8 @@ Inv-loop s n desks all channels₀ low₀ at₀ i₀ channels low at i =
 abbrev μ-loop : tie.MeasureT-loop
 μ-loop s n desks all channels₀ low₀ at₀ i₀ channels low at i = n - i
 
-all-desks-requires : tie.Need-all-desks-requires Inv-loop μ-loop
-all-desks-requires c κs = search needs
+first-desks-requires : tie.Need-first-desks-requires Inv-loop μ-loop
+first-desks-requires c κs = search needs
 
 new-requires : tie.Need-new-requires Inv-loop μ-loop
 new-requires c κs = search needs
@@ -64,7 +65,7 @@ returns c =
     let st = c .before .before .before .before .before .before .before .before .before .before in
     let l = c .before .before .before .before .before .before .loop in
     let s = st .args .s .now in
-    let t : (between (l .low) 99 (getD s (l .at) 0) && between 1 (2 ^ st .args .desks - 1) (getD s (l .at + 1) 0)) ≡ false = rw (c .before .before .before .before .before .before .before .before .all-desks .ensures) at (sym (c .before .before .is-channel .ensures) ∙ not-true _ (c .before .if1 .taken)) in
+    let t : (between (l .low) 99 (getD s (l .at) 0) && between 1 (firstDesks (st .args .desks)) (getD s (l .at + 1) 0)) ≡ false = rw (c .before .before .before .before .before .before .before .before .first-desks .ensures) at (sym (c .before .before .is-channel .ensures) ∙ not-true _ (c .before .if1 .taken)) in
     let e : channelsOk (st .args .n) 0 (st .args .desks) s ≡ false = l .inv .3 ∙ channels-ok-at (st .args .n) (l .i) (search needs) s (l .at) (l .low) (st .args .desks) ∙ rw t in
     rw e (c .no-channels .ensures)
 
@@ -81,7 +82,7 @@ add-low : tie.Need-add-low Inv-loop μ-loop
 add-low c =
     let s = c .before .before .before .before .before .before .before .before .before .before .args .s .now in
     let l = c .before .before .before .before .before .before .loop in
-    let a = c .before .before .before .before .before .before .before .before .all-desks .result in
+    let a = c .before .before .before .before .before .before .before .before .first-desks .result in
     omega (arith, code-low (l .low) (getD s (l .at) 0) a (getD s (l .at + 1) 0) (sym (c .before .before .is-channel .ensures) ∙ not-false _ (c .before .if1 .left)))
 
 add-at : tie.Need-add-at Inv-loop μ-loop
@@ -99,7 +100,7 @@ loop-again c =
     let l = c .before .before .before .before .before .before .loop in
     let s = st .args .s .now in
     let h : l .i < st .args .n = search needs in
-    let t : (between (l .low) 99 (getD s (l .at) 0) && between 1 (2 ^ st .args .desks - 1) (getD s (l .at + 1) 0)) ≡ true = rw (c .before .before .before .before .before .before .before .before .all-desks .ensures) at (sym (c .before .before .is-channel .ensures) ∙ not-false _ (c .before .if1 .left)) in (
+    let t : (between (l .low) 99 (getD s (l .at) 0) && between 1 (firstDesks (st .args .desks)) (getD s (l .at + 1) 0)) ≡ true = rw (c .before .before .before .before .before .before .before .before .first-desks .ensures) at (sym (c .before .before .is-channel .ensures) ∙ not-false _ (c .before .if1 .left)) in (
       search needs,
       omega arith,
       simp length-set (l .inv .2),
@@ -122,7 +123,7 @@ read-channels-spec =
     (tie.spec
     Inv-loop
     μ-loop
-    all-desks-requires
+    first-desks-requires
     new-requires
     loop-holds
     shared-slice-read-code

@@ -155,7 +155,6 @@ read-channels-requires c κs =
     let w = counted-at c in (
       omega (arith, channel-count c, facts w .channels),
       rw (part-to-end (plan w) (2 + 10 * w .wide .result), length-drop) (omega (arith, channel-count c, desk-count w, facts w .size)),
-      omega (arith, ap (λ (k : Size). k .desks) (right w .1), facts w .desks),
     )
 
 channels-were : (h : tie.After-read-channels)

@@ -15,7 +15,7 @@ use Rattle.channel.specs.declared.state.Channel.{Channel}
 use Rattle.set_rules.specs.State.{noChannel, channelsOf, placeOf}
 use Rattle.set_rules.specs.Entries.{readEntry}
 use Rattle.set_rules.specs.declared.state.Entry.{Entry}
-use Rattle.changes.proofs.Places.{any-default}
+use Rattle.set_rules.proofs.Elements.{any-default}
 use Rattle.line_set.specs.Steps.{planOutcome}
 use borrow.Author.Needs.{needs}
 use Rattle.line_set.proofs.ByKind.{tick-step, handover-step, plan-step, step-gives}

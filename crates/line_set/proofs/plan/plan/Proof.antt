@@ -1,15 +1,15 @@
 -- `line_set::plan::plan` meets its contract: a plan that breaks no rule makes the set anew, if there is room for the requests.
 -- Assumes nothing.
-use Prim.Native.Nat.{ℕ, _≤_}
-use mathlib.Core.Path.{_≡_, refl, sym, ap, ap₂, subst, _∙_}
+use Prim.Native.Nat.{ℕ}
+use mathlib.Core.Path.{_≡_, refl, sym, ap, ap₂, _∙_}
 use native.Mathlib.Omega.{arith}
 use lib.ListN.{length}
 use denote.Ref.{now}
 use Rattle.set_rules.specs.declared.state.LineSet.{LineSet}
 use mathlib.Core.Bool.{true, false}
 use mathlib.Core.List.{[], _∷_}
-use Prim.Native.Nat.{_-_, _^_}
 use borrow.Author.Tests.{not-true, not-false}
+use Rattle.channel.specs.State.{firstDesks}
 use Rattle.entries.specs.declared.plan.Plan.{Plan}
 use Rattle.records.specs.Emitting.{written, delivery}
 use Rattle.records.specs.declared.body.Body.the-variants.{TimeRequest}
@@ -17,7 +17,7 @@ use Rattle.set_rules.specs.Plan.{planOk, setOf}
 use Rattle.set_rules.specs.Records.{recordsOf, spaceOf}
 use Rattle.set_rules.specs.SetRules.{onPlan}
 use Rattle.set_rules.proofs.Answers.{space-length}
-use Rattle.line_set.proofs.Asking.{plan-present, plan-bad, plan-good, plan-ok, plan-set, desks-few}
+use Rattle.line_set.proofs.Asking.{plan-present, plan-bad, plan-good, plan-ok, plan-set}
 use Rattle.line_set.proofs.Emission.{accepted, refused, gives-as, no-room, emitted}
 use borrow.Author.Needs.{needs}
 use Rattle.line_set.proofs.plan.plan.Statement.{statement}
@@ -49,15 +49,8 @@ returns-2 c =
     let ok : planOk p ≡ false = sym (plan-ok p) ∙ sym (ap (λ (x : Plan). x .ok) (c .before .before .before .read-plan .ensures)) ∙ not-true _ (c .before .if2 .taken) in
     gives-as (plan-bad s p (length b) (c .before .before .before .before .if1 .left) ok) (refused s 6 b (c .refuse2 .ensures))
 
-first-requires : tie.Need-first-requires
-first-requires c κs =
-    let st = c .before .before .before .before .before .before .before .before in
-    let s = st .args .set in
-    let p = now (st .args .bytes) in
-    let b = now (st .args .buffer) in
-    let ok : planOk p ≡ true = sym (plan-ok p) ∙ sym (ap (λ (x : Plan). x .ok) (c .before .before .before .before .read-plan .ensures)) ∙ not-false _ (c .before .before .if2 .left) in
-    let t : c .before .before .before .before .read-plan .result .set ≡ setOf p = ap (λ (x : Plan). x .set) (c .before .before .before .before .read-plan .ensures) ∙ plan-set p ok in
-    subst (λ (x : LineSet). x .size .desks ≤ 4) (sym t) (desks-few p ok)
+first-desks-requires : tie.Need-first-desks-requires
+first-desks-requires c κs = search needs
 
 space-to-requires : tie.Need-space-to-requires
 space-to-requires c κs = search needs
@@ -73,13 +66,13 @@ returns-3 c =
     let b = now (st .args .buffer) in
     let ok : planOk p ≡ true = sym (plan-ok p) ∙ sym (ap (λ (x : Plan). x .ok) (c .before .before .before .before .before .before .before .before .read-plan .ensures)) ∙ not-false _ (c .before .before .before .before .before .before .if2 .left) in
     let t : c .before .before .before .before .before .before .before .before .read-plan .result .set ≡ setOf p = ap (λ (x : Plan). x .set) (c .before .before .before .before .before .before .before .before .read-plan .ensures) ∙ plan-set p ok in
-    let m = c .before .before .before .first .ensures ∙ ap (λ (x : LineSet). 2 ^ x .size .desks - 1) t in
+    let m = c .before .before .before .first-desks .ensures ∙ ap (λ (x : LineSet). firstDesks (x .size .desks)) t in
     let total : c .before .before .space-to .result ≡ spaceOf (onPlan p .sent) = c .before .before .space-to .ensures .0 ∙ ap (λ (k : ℕ). spaceOf (delivery k TimeRequest ∷ [])) m in
     gives-as (plan-good s p (length b) (c .before .before .before .before .before .before .before .before .before .if1 .left) ok) (no-room s (onPlan p) b (omega (arith, total, c .before .if3 .taken)) (c .refuse3 .ensures))
 
 put-to-requires : tie.Need-put-to-requires
 put-to-requires c κs =
-    let v = delivery (c .before .before .before .first .result) TimeRequest ∷ [] in
+    let v = delivery (c .before .before .before .first-desks .result) TimeRequest ∷ [] in
     omega (arith, c .before .before .space-to .ensures .0, space-length (c .before .before .before .before .before .before .before .before .read-plan .result .set .desks) v (λ k. refl, tt), c .before .if3 .left)
 
 same-length : tie.Need-same-length
@@ -93,7 +86,7 @@ returns-4 c =
     let b = now (st .args .buffer) in
     let ok : planOk p ≡ true = sym (plan-ok p) ∙ sym (ap (λ (x : Plan). x .ok) (c .before .before .before .before .before .before .before .before .before .before .before .read-plan .ensures)) ∙ not-false _ (c .before .before .before .before .before .before .before .before .before .if2 .left) in
     let t : c .before .before .before .before .before .before .before .before .before .before .before .read-plan .result .set ≡ setOf p = ap (λ (x : Plan). x .set) (c .before .before .before .before .before .before .before .before .before .before .before .read-plan .ensures) ∙ plan-set p ok in
-    let m = c .before .before .before .before .before .before .first .ensures ∙ ap (λ (x : LineSet). 2 ^ x .size .desks - 1) t in
+    let m = c .before .before .before .before .before .before .first-desks .ensures ∙ ap (λ (x : LineSet). firstDesks (x .size .desks)) t in
     let total : c .before .before .before .before .before .space-to .result ≡ spaceOf (onPlan p .sent) = c .before .before .before .before .before .space-to .ensures .0 ∙ ap (λ (k : ℕ). spaceOf (delivery k TimeRequest ∷ [])) m in
     gives-as (plan-good s p (length b) (c .before .before .before .before .before .before .before .before .before .before .before .before .if1 .left) ok)
     (emitted s (onPlan p) b (omega (arith, total, c .before .before .before .before .if3 .left)) (λ k. refl, tt)
@@ -109,7 +102,7 @@ plan-spec =
     read-plan-requires
     refuse-requires-2
     returns-2
-    first-requires
+    first-desks-requires
     space-to-requires
     refuse-requires-3
     returns-3

@@ -2,12 +2,13 @@
 -- Assumes nothing.
 use Prim.Native.Nat.{ℕ, _+_, _≤_}
 use mathlib.Core.List.{List}
-use mathlib.Core.Path.{_≡_, _∙_, sym, refl}
+use mathlib.Core.Path.{_≡_, _∙_, sym, ap, refl}
 use native.Mathlib.Omega.{arith}
 use denote.Ref.{now}
 use lib.ListN.{length, length-take, length-drop}
 use Rattle.line_rules.specs.Notices.{Content}
 use Rattle.set_rules.specs.Records.{recordFor, recordSize}
+use Rattle.set_rules.specs.declared.state.Desk.{Desk}
 use Rattle.set_rules.proofs.Answers.{record-length}
 use Rattle.records.specs.Emitting.{bodyFor, restBytes}
 use Rattle.records.proofs.Writing.{Writing, start, next, last, room, done, part-back}
@@ -26,7 +27,7 @@ abbrev whole : tie.Start → List ℕ
 whole c = recordFor (c .args .desks) (c .args .d) (content c)
 
 abbrev rest : tie.After-slice-known2 → List ℕ
-rest c = restBytes (c .before .before .before .before .code-at .result) (content (entry c))
+rest c = restBytes (c .before .before .before .before .desk-at .result .code) (content (entry c))
 
 -- the size that the code has is the record's
 sized : (c : tie.After-record-size) → c .record-size .result ≡ recordSize (content (c .before .before))
@@ -37,7 +38,7 @@ begun : (c : tie.After-slice-known2) → Writing (now (entry c .args .buffer)) 0
 begun c =
     let a = entry c .args in
     let kind = c .before .before .before .before .before .kind-of .ensures ∙ sym (body-alike (a .d) (a .body) .kind) in
-    let parts = record-parts (a .desks) (a .d) (content (entry c)) (sized (c .before .before .before .before .before .before)) kind (c .before .before .before .before .code-at .ensures) in
+    let parts = record-parts (a .desks) (a .d) (content (entry c)) (sized (c .before .before .before .before .before .before)) kind (ap (λ (k : Desk). k .code) (c .before .before .before .before .desk-at .ensures)) in
     next (start (now (a .buffer)) 0 _) parts refl (c .before .before .put-head .ensures)
 
 fits : (c : tie.After-slice-known2) → 5 + length (rest c) ≤ length (c .before .before .put-head .last .0)
@@ -51,8 +52,8 @@ record-size-requires c κs = search needs
 kind-of-requires : tie.Need-kind-of-requires
 kind-of-requires c κs = search needs
 
-code-at-requires : tie.Need-code-at-requires
-code-at-requires c κs = search needs
+desk-at-requires : tie.Need-desk-at-requires
+desk-at-requires c κs = search needs
 
 sub-put-head : tie.Need-sub-put-head
 sub-put-head c = omega (arith, sized (c .before .before .before), size-least (content (c .before .before .before .before .before)))
@@ -93,7 +94,7 @@ put-record-spec =
     (tie.spec
     record-size-requires
     kind-of-requires
-    code-at-requires
+    desk-at-requires
     sub-put-head
     put-head-requires
     sub-put-body
