@@ -15,7 +15,7 @@ ghost use mathlib.Core.Bool.{cond};
 ghost use lib.Dec.{eqb};
 ghost use lib.ListN.{length};
 ghost use Rattle.line_rules.specs.Rules.{happens};
-ghost use Rattle.line_rules.specs.Scripts.{heard};
+ghost use Rattle.lines.specs.Scripts.{heard};
 ghost use Rattle.set_rules.specs.SetRules.{numberIn};
 ghost use Rattle.changes.specs.Changes.{Makes, contextIn, eventOf, unchanged, emitIn, onOne, timeIn, answerIn, lineIn, requestOn, changeIn};
 
@@ -45,7 +45,7 @@ pub fn moved(desks: [Desk; 4], n: u8, d: u8, event: Event, c: Channel) -> Moved
     let listeners = lookup::listeners(desks, n, c.entitled);
     let desk = set_rules::desk_at(desks, d);
     let own = desk.number;
-    line_rules::happens(event, listeners, own, c)
+    lines::happens(event, listeners, own, c)
 }
 
 // An event on the channel, and its records if there is room.

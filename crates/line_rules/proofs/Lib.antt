@@ -1,4 +1,2 @@
 pub mod Veil
 pub mod Traps
-pub mod Scripts
-pub mod Ticks

@@ -13,9 +13,9 @@ use borrow.Author.Tests.{eqb-true}
 use Rattle.channel.specs.State.{holderPlace}
 use Rattle.line_rules.specs.Rules.{Context, Step, tick, happens}
 use Rattle.channel.specs.declared.state.Channel.{Channel}
-use Rattle.line_rules.specs.Scripts.{any, falling, tickBy}
+use Rattle.lines.specs.Scripts.{any, falling, tickBy}
 use Rattle.channel.specs.declared.state.Falling.{Falling}
-use Rattle.line_rules.proofs.Ticks.{tick-falling}
+use Rattle.lines.proofs.Ticks.{tick-falling}
 use Rattle.channel.specs.declared.state.Event.{Event}
 use Rattle.channel.specs.declared.state.Event.the-variants.{Tick}
 use Rattle.records.proofs.Writing.{Split}

@@ -24,7 +24,7 @@ ghost use Rattle.line_set.specs.Steps.{Gives, sendsIn};
 fn space_in(desks: [Desk; 4], n: u8, event: Event, c: Channel) -> usize
     ensures { λ r. ⌜ (r ≡ spaceOf (delivered (c .code) (sendsIn desks n event c))) × (r ≤ 2856) ⌝ }
 {
-    if !line_rules::sends_any(event, c) {
+    if !lines::sends_any(event, c) {
         return 0;
     }
     let holder = c.holder;
@@ -39,7 +39,7 @@ fn put_in(buffer: &mut [u8], at: usize, desks: [Desk; 4], n: u8, event: Event, c
     requires { ⌜ at + length (recordsOf desks (delivered (c .code) (sendsIn desks n event c))) ≤ length (now buffer) ⌝ }
     ensures { λ r. ⌜ (r ≡ at + length (recordsOf desks (delivered (c .code) (sendsIn desks n event c)))) × (now (buffer .exit) ≡ written (now (buffer .entry)) at (recordsOf desks (delivered (c .code) (sendsIn desks n event c)))) ⌝ }
 {
-    if !line_rules::sends_any(event, c) {
+    if !lines::sends_any(event, c) {
         return at;
     }
     let holder = c.holder;
@@ -99,7 +99,7 @@ fn ticked(mut set: LineSet) -> TickedSet
     let mut i = 0;
     while i < end {
         let c = set.channels[i];
-        let falling = line_rules::falls(c);
+        let falling = lines::falls(c);
         match falling {
             Falling::Neither => {}
             Falling::Quiet(left) => {
@@ -109,7 +109,7 @@ fn ticked(mut set: LineSet) -> TickedSet
                 set.channels[i].release = left;
             }
             Falling::Due => {
-                let next = line_rules::ticked(c);
+                let next = lines::ticked(c);
                 set.channels[i] = next;
                 due = true;
             }

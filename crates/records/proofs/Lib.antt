@@ -1,4 +1,3 @@
 pub mod Writing
 pub mod RecordLaws
 pub mod SendLaws
-pub mod Heard

@@ -11,7 +11,7 @@ use Rattle.set_rules.specs.Records.{delivered, spaceOf}
 use Rattle.set_rules.proofs.Answers.{even-sends, space-length}
 use Rattle.changes.specs.Changes.{Move, onOne}
 use Rattle.changes.specs.declared.change.Change.{Change}
-use Rattle.records.proofs.Heard.{same-space, same-records}
+use Rattle.changes.proofs.Heard.{same-space, same-records}
 use Rattle.changes.proofs.Changing.{change, no-room-in, emitted-in}
 use borrow.Author.Needs.{needs}
 use Rattle.changes.proofs.change.on_channel.Statement.{statement}

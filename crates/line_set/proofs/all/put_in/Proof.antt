@@ -9,11 +9,11 @@ use denote.Ref.{now}
 use borrow.Author.Tests.{not-true}
 use Rattle.channel.specs.State.{holderPlace}
 use Rattle.line_rules.specs.Rules.{happens}
-use Rattle.line_rules.specs.Scripts.{heard}
+use Rattle.lines.specs.Scripts.{heard}
 use Rattle.records.specs.Emitting.{written}
 use Rattle.records.proofs.Writing.{written-none}
 use Rattle.set_rules.specs.Records.{delivered, recordsOf}
-use Rattle.records.proofs.Heard.{same-records}
+use Rattle.changes.proofs.Heard.{same-records}
 use Rattle.changes.specs.Changes.{contextIn}
 use Rattle.line_set.specs.Steps.{sendsIn}
 use Rattle.line_set.proofs.Emission.{nothing-sent}

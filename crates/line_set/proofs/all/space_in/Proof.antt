@@ -6,9 +6,9 @@ use native.Mathlib.Omega.{arith}
 use borrow.Author.Tests.{not-true}
 use Rattle.channel.specs.State.{holderPlace}
 use Rattle.line_rules.specs.Rules.{happens}
-use Rattle.line_rules.specs.Scripts.{heard}
+use Rattle.lines.specs.Scripts.{heard}
 use Rattle.set_rules.specs.Records.{delivered, spaceOf}
-use Rattle.records.proofs.Heard.{same-space}
+use Rattle.changes.proofs.Heard.{same-space}
 use Rattle.changes.specs.Changes.{contextIn}
 use Rattle.line_set.specs.Steps.{sendsIn}
 use Rattle.line_set.proofs.Emission.{nothing-sent}

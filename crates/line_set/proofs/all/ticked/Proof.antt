@@ -5,8 +5,8 @@ use mathlib.Core.Path.{_≡_, refl, sym, ap, subst, _∙_}
 use native.Mathlib.Omega.{arith}
 use lib.ListN.{length, set, getD, length-map}
 use Rattle.line_rules.specs.Rules.{Context, tick}
-use Rattle.line_rules.specs.Scripts.{any}
-use Rattle.line_rules.proofs.Ticks.{silent-neither, silent-quiet, silent-release}
+use Rattle.lines.specs.Scripts.{any}
+use Rattle.lines.proofs.Ticks.{silent-neither, silent-quiet, silent-release}
 use Rattle.channel.specs.declared.state.Channel.{Channel}
 use Rattle.channel.specs.declared.state.Event.the-variants.{Tick}
 use Rattle.set_rules.specs.State.{noChannel, channelsOf, withChannels}
@@ -21,8 +21,8 @@ use Rattle.line_set.proofs.all.ticked.Statement.{statement}
 use Rattle.line_set.proofs.all.ticked.Tie as tie
 use Rattle.line_set.proofs.all.ticked.Reads as reads
 use Rattle.line_set.proofs.all.ticked.Lts as lts
-use Rattle.line_rules.proofs.falls.Reads as falls-reads
-use Rattle.line_rules.proofs.ticked.Reads as ticked-reads
+use Rattle.lines.proofs.falls.Reads as falls-reads
+use Rattle.lines.proofs.ticked.Reads as ticked-reads
 use Rattle.line_set.proofs.places.count_of.Reads as count-of-reads
 
 -- the first i channels are ticked, nothing else has changed, and where no timer ran out nothing is sent

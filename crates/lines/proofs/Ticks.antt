@@ -1,0 +1,140 @@
+-- A tick goes by what it does to the timers, and how the tests of the code tell what that is.
+-- Assumes nothing.
+use Prim.Native.Nat.{ℕ, _-_, _<_, _≤_}
+use mathlib.Core.Bool.{Bool, true, false, cond, not, _&&_, _||_}
+use mathlib.Core.Path.{_≡_, refl, sym, _∙_}
+use borrow.Author.Tests.{lt-ltb, le-ltb, lt-leb, le-leb, eqb-true, eqb-false, ltb-true, ltb-false, not-true, not-false}
+use native.Mathlib.Omega.{arith}
+use lib.Dec.{eqb, leb, ltb}
+use Rattle.channel.specs.State.{isPresent}
+use Rattle.line_rules.specs.Rules.{Context, Step, tick, tickIdle, tickQuiet, tickRelease, isHeld, isOpen}
+use Rattle.lines.specs.Scripts.{falling, runOut, tickBy, any}
+use Rattle.channel.specs.declared.state.Channel.{Channel}
+use Rattle.channel.specs.declared.state.Falling.{Falling}
+use Rattle.channel.specs.declared.state.Falling.the-variants.{Neither, Quiet, Release, Due}
+use Rattle.lines.proofs.Scripts.{any-end}
+
+by-cond : (t : Bool) (a b : Falling) (x : Context) (c : Channel) → tickBy (cond t a b) x c ≡ cond t (tickBy a x c) (tickBy b x c)
+by-cond true a b x c = refl
+by-cond false a b x c = refl
+
+-- the timer that runs out is the one that falls
+by-due : (t l m h : Bool) (a b q r e : Step)
+    → cond t (cond l a q) (cond h (cond m b r) e) ≡ cond t (cond l (cond t a b) q) (cond h (cond m (cond t a b) r) e)
+by-due true l m h a b q r e = refl
+by-due false l m h a b q r e = refl
+
+-- what a tick does where nobody talks
+abbrev idle : Channel → Falling
+idle c =
+    cond (ltb 0 (c .quiet)) (cond (leb (c .quiet) 1) Due (Quiet (c .quiet - 1)))
+    (cond (isHeld (c .holder)) (cond (leb (c .release) 1) Due (Release (c .release - 1))) Neither)
+
+idle-by : (x : Context) (c : Channel) → tickIdle x c ≡ tickBy (idle c) x c
+unfolding tickIdle tickQuiet tickRelease runOut
+idle-by x c =
+    by-due (ltb 0 (c .quiet)) (leb (c .quiet) 1) (leb (c .release) 1) (isHeld (c .holder)) _ _ _ _ _
+    ∙ sym (simp by-cond refl)
+
+pub tick-falling : (x : Context) (c : Channel) → tick x c ≡ tickBy (falling c) x c
+unfolding tick falling
+tick-falling x c = simp (by-cond, idle-by) refl
+
+-- ---- what is sent
+
+-- nothing, unless a timer runs out
+pub silent-neither : (x : Context) (c : Channel) → falling c ≡ Neither → any (tick x c .sends) ≡ false
+silent-neither x c e = simp (tick-falling, e) refl
+
+pub silent-quiet : (x : Context) (c : Channel) (q : ℕ) → falling c ≡ Quiet q → any (tick x c .sends) ≡ false
+silent-quiet x c q e = simp (tick-falling, e) refl
+
+pub silent-release : (x : Context) (c : Channel) (r : ℕ) → falling c ≡ Release r → any (tick x c .sends) ≡ false
+silent-release x c r e = simp (tick-falling, e) refl
+
+pub silent-unless-due : (x : Context) (c : Channel) (f : Falling) → falling c ≡ f → (f ≡ Due → ⊥) → any (tick x c .sends) ≡ false
+silent-unless-due x c Neither e n = silent-neither x c e
+silent-unless-due x c (Quiet q) e n = silent-quiet x c q e
+silent-unless-due x c (Release r) e n = silent-release x c r e
+silent-unless-due x c Due e n = absurd (n refl)
+
+-- where a timer runs out: the end of a call, or that the channel is free
+pub any-run-out : (x : Context) (c : Channel) → any (runOut x c .sends) ≡ (eqb (c .quiet) 0 || isOpen (c .call))
+unfolding runOut
+any-run-out x c = go (eqb (c .quiet) 0) refl
+  where
+    go : (t : Bool) → eqb (c .quiet) 0 ≡ t → any (runOut x c .sends) ≡ (eqb (c .quiet) 0 || isOpen (c .call))
+    go true e =
+        let stopped : c .quiet ≤ 0 = omega (arith, eqb-true (c .quiet) 0 e) in
+        simp (e, le-ltb 0 (c .quiet) stopped) refl
+    go false e =
+        let runs : 0 < c .quiet = omega (arith, eqb-false (c .quiet) 0 e) in
+        simp (e, lt-ltb 0 (c .quiet) runs, any-end) refl
+
+-- ---- the tests
+
+-- a choice between equals
+same : (t : Bool) (a : Falling) → cond t a a ≡ a
+same true a = refl
+same false a = refl
+
+talk : (p a : Bool) (f : Falling) → (p || a) ≡ true → cond p Neither (cond a Neither f) ≡ Neither
+talk true a f h = refl
+talk false true f h = refl
+talk false false f h = cc
+
+both : (a b : Bool) → (a && b) ≡ true → (a ≡ true) × (b ≡ true)
+both true b h = (refl, h)
+both false b h = (h, cc)
+
+neither : (a b : Bool) → (a || b) ≡ false → (a ≡ false) × (b ≡ false)
+neither true b h = (h, cc)
+neither false b h = (refl, h)
+
+module _ (c : Channel) where
+  pub at-rest : (eqb (c .quiet) 0 && not (isHeld (c .holder))) ≡ true → falling c ≡ Neither
+  unfolding falling
+  at-rest h =
+      let b = both (eqb (c .quiet) 0) (not (isHeld (c .holder))) h in
+      let stopped : c .quiet ≤ 0 = omega (arith, eqb-true (c .quiet) 0 (b .0)) in
+      simp (le-ltb 0 (c .quiet) stopped, not-true (isHeld (c .holder)) (b .1), same) refl
+
+  pub talked : (c .pressed || isPresent (c .arrival)) ≡ true → falling c ≡ Neither
+  unfolding falling
+  talked h = talk (c .pressed) (isPresent (c .arrival)) _ h
+
+  pub quiet-falls : (c .pressed || isPresent (c .arrival)) ≡ false → 1 < c .quiet → falling c ≡ Quiet (c .quiet - 1)
+  unfolding falling
+  quiet-falls h q =
+      let n = neither (c .pressed) (isPresent (c .arrival)) h in
+      let runs : 0 < c .quiet = omega arith in
+      simp (n .0, n .1, lt-ltb 0 (c .quiet) runs, lt-leb (c .quiet) 1 q) refl
+
+  pub release-left : (eqb (c .quiet) 0 && ltb 1 (c .release)) ≡ true → 1 < c .release
+  release-left t = ltb-true 1 (c .release) (both (eqb (c .quiet) 0) (ltb 1 (c .release)) t .1)
+
+  module _ (z : (eqb (c .quiet) 0 && not (isHeld (c .holder))) ≡ false) (h : (c .pressed || isPresent (c .arrival)) ≡ false) where
+    held : eqb (c .quiet) 0 ≡ true → isHeld (c .holder) ≡ true
+    held e = not-false (isHeld (c .holder)) (rw e at z)
+
+    pub release-falls : (eqb (c .quiet) 0 && ltb 1 (c .release)) ≡ true → falling c ≡ Release (c .release - 1)
+    unfolding falling
+    release-falls t =
+        let n = neither (c .pressed) (isPresent (c .arrival)) h in
+        let b = both (eqb (c .quiet) 0) (ltb 1 (c .release)) t in
+        let stopped : c .quiet ≤ 0 = omega (arith, eqb-true (c .quiet) 0 (b .0)) in
+        simp (n .0, n .1, le-ltb 0 (c .quiet) stopped, held (b .0), lt-leb (c .release) 1 (ltb-true 1 (c .release) (b .1))) refl
+
+    pub runs-out : c .quiet ≤ 1 → (eqb (c .quiet) 0 && ltb 1 (c .release)) ≡ false → falling c ≡ Due
+    unfolding falling
+    runs-out q t =
+        let n = neither (c .pressed) (isPresent (c .arrival)) h in
+        simp (n .0, n .1, go (eqb (c .quiet) 0) refl) refl
+      where
+        go : (u : Bool) → eqb (c .quiet) 0 ≡ u → idle c ≡ Due
+        go true e =
+            let stopped : c .quiet ≤ 0 = omega (arith, eqb-true (c .quiet) 0 e) in
+            simp (le-ltb 0 (c .quiet) stopped, held e, le-leb (c .release) 1 (ltb-false 1 (c .release) (rw e at t))) refl
+        go false e =
+            let runs : 0 < c .quiet = omega (arith, eqb-false (c .quiet) 0 e) in
+            simp (lt-ltb 0 (c .quiet) runs, le-leb (c .quiet) 1 q) refl

@@ -1,0 +1,44 @@
+-- `lines::holding::cut_after` meets its contract: each part of the script is heard as the rule's.
+-- Assumes nothing.
+use borrow.Author.Needs.{needs}
+use mathlib.Core.Path.{refl, sym}
+use Rattle.line_rules.specs.Rules.{cut}
+use Rattle.lines.proofs.Scripts.{send-by-send, heard-when-two}
+use Rattle.lines.proofs.holding.cut_after.Statement.{statement}
+use Rattle.lines.proofs.holding.cut_after.Tie as tie
+
+holder-set-requires : tie.Need-holder-set-requires
+holder-set-requires c κs = search needs
+
+set-if-requires : tie.Need-set-if-requires
+set-if-requires c κs = search needs
+
+press-sends-requires : tie.Need-press-sends-requires
+press-sends-requires c κs = search needs
+
+end-requires : tie.Need-end-requires
+end-requires c κs = search needs
+
+freed-requires : tie.Need-freed-requires
+freed-requires c κs = search needs
+
+returns : tie.Need-returns
+unfolding cut
+returns c =
+    let c₄ = c .before .before .before .before in
+    let off = c₄ .press-sends .ensures in
+    let m = c₄ .before .before .holder-set .ensures in (
+      refl,
+      simp (send-by-send, heard-when-two, off .0, off .1, m, c₄ .before .set-if .ensures, sym (c .before .end .ensures), c .freed .ensures) refl,
+    )
+
+pub cut-after-spec : {M : Type 1} → statement M
+cut-after-spec =
+    tie.close
+    (tie.spec
+    holder-set-requires
+    set-if-requires
+    press-sends-requires
+    end-requires
+    freed-requires
+    returns)

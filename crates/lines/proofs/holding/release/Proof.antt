@@ -1,0 +1,39 @@
+-- `lines::holding::release` meets its contract: by whether the desk holds the channel.
+-- Assumes nothing.
+use borrow.Author.Needs.{needs}
+use mathlib.Core.Path.{sym, _∙_}
+use Rattle.line_rules.specs.Rules.{release}
+use Rattle.lines.proofs.holding.release.Statement.{statement}
+use Rattle.lines.proofs.holding.release.Tie as tie
+
+held-by-requires : tie.Need-held-by-requires
+held-by-requires c κs = search needs
+
+reply-requires : tie.Need-reply-requires
+reply-requires c κs = search needs
+
+cut-after-requires : tie.Need-cut-after-requires
+cut-after-requires c κs = search needs
+
+replied-requires : tie.Need-replied-requires
+replied-requires c κs = search needs
+
+returns : tie.Need-returns
+unfolding release
+returns c =
+    simp (sym (c .before .before .before .held-by .ensures) ∙ c .before .before .if1 .taken) (rw (c .before .reply .ensures) at (c .cut-after .ensures))
+
+returns-2 : tie.Need-returns-2
+unfolding release
+returns-2 c = simp (sym (c .before .before .held-by .ensures) ∙ c .before .if1 .left) (c .replied .ensures)
+
+pub release-spec : {M : Type 1} → statement M
+release-spec =
+    tie.close
+    (tie.spec
+    held-by-requires
+    reply-requires
+    cut-after-requires
+    replied-requires
+    returns
+    returns-2)

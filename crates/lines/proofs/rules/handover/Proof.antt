@@ -1,0 +1,63 @@
+-- `lines::rules::handover` meets its contract: each part of the script is heard as the rule's.
+-- Assumes nothing.
+use borrow.Author.Needs.{needs}
+use mathlib.Core.Path.{refl, sym}
+use Rattle.line_rules.specs.Rules.{handover}
+use Rattle.lines.proofs.Scripts.{send-by-send, heard-when, heard-when-two}
+use Rattle.lines.proofs.rules.handover.Statement.{statement}
+use Rattle.lines.proofs.rules.handover.Tie as tie
+
+holder-set-requires : tie.Need-holder-set-requires
+holder-set-requires c κs = search needs
+
+set-if-requires : tie.Need-set-if-requires
+set-if-requires c κs = search needs
+
+press-sends-requires : tie.Need-press-sends-requires
+press-sends-requires c κs = search needs
+
+mobile-off-sends-requires : tie.Need-mobile-off-sends-requires
+mobile-off-sends-requires c κs = search needs
+
+end-requires : tie.Need-end-requires
+end-requires c κs = search needs
+
+is-held-requires : tie.Need-is-held-requires
+is-held-requires c κs = search needs
+
+set-if-requires-2 : tie.Need-set-if-requires-2
+set-if-requires-2 c κs = search needs
+
+freed-requires : tie.Need-freed-requires
+freed-requires c κs = search needs
+
+new-requires : tie.Need-new-requires
+new-requires c κs = search needs
+
+returns : tie.Need-returns
+unfolding handover
+returns c =
+    let c₄ = c .before .before .before .before in
+    let c₈ = c₄ .before .before .before .before in
+    let c₁₂ = c₈ .before .before .before .before in
+    let off = c₈ .before .before .before .press-sends .ensures in
+    let m = c₁₂ .before .holder-set .ensures in
+    let h = c .before .before .before .is-held .ensures in (
+      c .new .ensures,
+      simp (send-by-send, heard-when, heard-when-two, off .0, off .1, m, c₁₂ .set-if .ensures, sym (c₈ .mobile-off-sends .ensures), sym (c₄ .end .ensures), c .before .freed .ensures, c .before .before .set-if2 .ensures, h) refl,
+    )
+
+pub handover-spec : {M : Type 1} → statement M
+handover-spec =
+    tie.close
+    (tie.spec
+    holder-set-requires
+    set-if-requires
+    press-sends-requires
+    mobile-off-sends-requires
+    end-requires
+    is-held-requires
+    set-if-requires-2
+    freed-requires
+    new-requires
+    returns)

@@ -1,0 +1,128 @@
+-- `lines::rules::happens` meets its contract: by the cases of the event.
+-- Assumes nothing.
+use borrow.Author.Needs.{needs}
+use Rattle.line_rules.specs.Rules.{happens, pressOn, pressOff, mobileOn}
+use Rattle.lines.proofs.rules.happens.Statement.{statement}
+use Rattle.lines.proofs.rules.happens.Tie as tie
+
+enum-known-event : tie.Need-enum-known-event
+enum-known-event c = search needs
+
+capture-requires : tie.Need-capture-requires
+capture-requires c κs = search needs
+
+enum-known-event-2 : tie.Need-enum-known-event-2
+enum-known-event-2 c = search needs
+
+release-requires : tie.Need-release-requires
+release-requires c κs = search needs
+
+enum-told : tie.Need-enum-told
+enum-told c = search needs
+
+cut-requires : tie.Need-cut-requires
+cut-requires c κs = search needs
+
+enum-told-2 : tie.Need-enum-told-2
+enum-told-2 c = search needs
+
+press-on-requires : tie.Need-press-on-requires
+press-on-requires c κs = search needs
+
+enum-told-3 : tie.Need-enum-told-3
+enum-told-3 c = search needs
+
+press-off-requires : tie.Need-press-off-requires
+press-off-requires c κs = search needs
+
+enum-known-event-3 : tie.Need-enum-known-event-3
+enum-known-event-3 c = search needs
+
+mobile-on-requires : tie.Need-mobile-on-requires
+mobile-on-requires c κs = search needs
+
+enum-told-4 : tie.Need-enum-told-4
+enum-told-4 c = search needs
+
+mobile-off-requires : tie.Need-mobile-off-requires
+mobile-off-requires c κs = search needs
+
+enum-told-5 : tie.Need-enum-told-5
+enum-told-5 c = search needs
+
+tick-requires : tie.Need-tick-requires
+tick-requires c κs = search needs
+
+enum-told-6 : tie.Need-enum-told-6
+enum-told-6 c = search needs
+
+handover-requires : tie.Need-handover-requires
+handover-requires c κs = search needs
+
+returns : tie.Need-returns
+unfolding happens
+returns c = rw (c .before .before .event .given .1) (c .capture .ensures)
+
+returns-2 : tie.Need-returns-2
+unfolding happens
+returns-2 c = rw (c .before .before .event2 .given .1) (c .release .ensures)
+
+returns-3 : tie.Need-returns-3
+unfolding happens
+returns-3 c = rw (c .before .enum-told .given .1) (c .cut .ensures)
+
+returns-4 : tie.Need-returns-4
+unfolding happens pressOn
+returns-4 c = rw (c .before .enum-told2 .given .1) (c .press-on .ensures)
+
+returns-5 : tie.Need-returns-5
+unfolding happens pressOff
+returns-5 c = rw (c .before .enum-told3 .given .1) (c .press-off .ensures)
+
+returns-6 : tie.Need-returns-6
+unfolding happens mobileOn
+returns-6 c = rw (c .before .before .event3 .given .1) (c .mobile-on .ensures)
+
+returns-7 : tie.Need-returns-7
+unfolding happens
+returns-7 c = rw (c .before .enum-told4 .given .1) (c .mobile-off .ensures)
+
+returns-8 : tie.Need-returns-8
+unfolding happens
+returns-8 c = rw (c .before .enum-told5 .given .1) (c .tick .ensures)
+
+returns-9 : tie.Need-returns-9
+unfolding happens
+returns-9 c = rw (c .before .enum-told6 .given .1) (c .handover .ensures)
+
+pub happens-spec : {M : Type 1} → statement M
+happens-spec =
+    tie.close
+    (tie.spec
+    enum-known-event
+    capture-requires
+    enum-known-event-2
+    release-requires
+    enum-told
+    cut-requires
+    enum-told-2
+    press-on-requires
+    enum-told-3
+    press-off-requires
+    enum-known-event-3
+    mobile-on-requires
+    enum-told-4
+    mobile-off-requires
+    enum-told-5
+    tick-requires
+    enum-told-6
+    handover-requires
+    returns
+    returns-2
+    returns-3
+    returns-4
+    returns-5
+    returns-6
+    returns-7
+    returns-8
+    returns-9)

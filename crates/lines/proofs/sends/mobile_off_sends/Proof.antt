@@ -1,0 +1,37 @@
+-- `lines::sends::mobile_off_sends` meets its contract: as at a mobile on, or to nobody.
+-- Assumes nothing.
+use borrow.Author.Needs.{needs}
+use mathlib.Core.Path.{refl}
+use Rattle.lines.specs.Scripts.{heard}
+use Rattle.lines.proofs.sends.mobile_off_sends.Statement.{statement}
+use Rattle.lines.proofs.sends.mobile_off_sends.Tie as tie
+
+enum-told : tie.Need-enum-told
+enum-told c = search needs
+
+mobile-sends-requires : tie.Need-mobile-sends-requires
+mobile-sends-requires c κs = search needs
+
+enum-known-arrival : tie.Need-enum-known-arrival
+enum-known-arrival c = search needs
+
+mobile-sends-requires-2 : tie.Need-mobile-sends-requires-2
+mobile-sends-requires-2 c κs = search needs
+
+returns : tie.Need-returns
+unfolding heard
+returns c = let e = c .mobile-sends .ensures in simp (e .0, e .1 .0, e .1 .1, c .before .enum-told .given .1) refl
+
+returns-2 : tie.Need-returns-2
+returns-2 c = let e = c .mobile-sends2 .ensures in simp (e .0, e .1 .0, e .1 .1, c .before .before .arrival .given .1) refl
+
+pub mobile-off-sends-spec : {M : Type 1} → statement M
+mobile-off-sends-spec =
+    tie.close
+    (tie.spec
+    enum-told
+    mobile-sends-requires
+    enum-known-arrival
+    mobile-sends-requires-2
+    returns
+    returns-2)

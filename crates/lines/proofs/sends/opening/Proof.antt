@@ -1,0 +1,26 @@
+-- `lines::sends::opening` meets its contract: the start of a new call, or nothing.
+-- Assumes nothing.
+use borrow.Author.Needs.{needs}
+use mathlib.Core.Path.{refl}
+use Rattle.lines.specs.Scripts.{heard}
+use Rattle.lines.proofs.sends.opening.Statement.{statement}
+use Rattle.lines.proofs.sends.opening.Tie as tie
+
+enum-told : tie.Need-enum-told
+enum-told c = search needs
+
+start-requires : tie.Need-start-requires
+start-requires c κs = search needs
+
+enum-told-2 : tie.Need-enum-told-2
+enum-told-2 c = search needs
+
+returns : tie.Need-returns
+returns c = rw (c .before .enum-told .given .1) (c .start .ensures)
+
+returns-2 : tie.Need-returns-2
+unfolding heard
+returns-2 c = rw (c .enum-told2 .given .1) refl
+
+pub opening-spec : {M : Type 1} → statement M
+opening-spec = tie.close (tie.spec enum-told start-requires enum-told-2 returns returns-2)

@@ -1,0 +1,29 @@
+-- `lines::talk::mobile_off` meets its contract: each part of the script is heard as the rule's.
+-- Assumes nothing.
+use borrow.Author.Needs.{needs}
+use mathlib.Core.Path.{refl, sym}
+use Rattle.line_rules.specs.Rules.{mobileOff}
+use Rattle.lines.proofs.Scripts.{send-by-send}
+use Rattle.lines.proofs.talk.mobile_off.Statement.{statement}
+use Rattle.lines.proofs.talk.mobile_off.Tie as tie
+
+mobile-off-sends-requires : tie.Need-mobile-off-sends-requires
+mobile-off-sends-requires c κs = search needs
+
+quiet-after-mobile-requires : tie.Need-quiet-after-mobile-requires
+quiet-after-mobile-requires c κs = search needs
+
+release-after-requires : tie.Need-release-after-requires
+release-after-requires c κs = search needs
+
+returns : tie.Need-returns
+unfolding mobileOff
+returns c = (
+  simp (c .release-after .ensures, c .before .quiet-after-mobile .ensures) refl,
+  simp (sym (c .before .before .before .before .before .mobile-off-sends .ensures), send-by-send) refl,
+)
+
+pub mobile-off-spec : {M : Type 1} → statement M
+mobile-off-spec =
+    tie.close
+    (tie.spec mobile-off-sends-requires quiet-after-mobile-requires release-after-requires returns)

@@ -1,0 +1,53 @@
+-- `lines::talk::mobile_on` meets its contract: each part of the script is heard as the rule's.
+-- Assumes nothing.
+use borrow.Author.Needs.{needs}
+use mathlib.Core.Path.{refl, sym}
+use Rattle.line_rules.specs.Rules.{mobileOn}
+use Rattle.lines.proofs.Scripts.{send-by-send}
+use Rattle.lines.proofs.talk.mobile_on.Statement.{statement}
+use Rattle.lines.proofs.talk.mobile_on.Tie as tie
+
+mobile-recipients-requires : tie.Need-mobile-recipients-requires
+mobile-recipients-requires c κs = search needs
+
+kind-of-requires : tie.Need-kind-of-requires
+kind-of-requires c κs = search needs
+
+new-call-requires : tie.Need-new-call-requires
+new-call-requires c κs = search needs
+
+mobile-sends-requires : tie.Need-mobile-sends-requires
+mobile-sends-requires c κs = search needs
+
+opening-requires : tie.Need-opening-requires
+opening-requires c κs = search needs
+
+opened-by-requires : tie.Need-opened-by-requires
+opened-by-requires c κs = search needs
+
+release-after-requires : tie.Need-release-after-requires
+release-after-requires c κs = search needs
+
+returns : tie.Need-returns
+unfolding mobileOn
+returns c =
+    let on = c .before .before .before .before .before .before .mobile-sends .ensures in
+    let new = c .before .before .before .before .before .before .before .new-call .ensures in
+    let k = c .before .before .before .before .before .before .before .before .kind-of .ensures in
+    let m = c .before .before .before .before .before .before .before .before .before .mobile-recipients .ensures in (
+      simp (c .release-after .ensures, c .before .opened-by .ensures, new, k, m) refl,
+      simp (send-by-send, on .0, on .1 .0, on .1 .1, sym (rw (new, m) at (c .before .before .before .opening .ensures)), k, m) refl,
+    )
+
+pub mobile-on-spec : {M : Type 1} → statement M
+mobile-on-spec =
+    tie.close
+    (tie.spec
+    mobile-recipients-requires
+    kind-of-requires
+    new-call-requires
+    mobile-sends-requires
+    opening-requires
+    opened-by-requires
+    release-after-requires
+    returns)

@@ -1,0 +1,44 @@
+-- `lines::talk::press_on` meets its contract: each part of the script is heard as the rule's.
+-- Assumes nothing.
+use borrow.Author.Needs.{needs}
+use mathlib.Core.Path.{refl, sym}
+use Rattle.line_rules.specs.Rules.{pressOn}
+use Rattle.lines.proofs.Scripts.{send-by-send}
+use Rattle.lines.proofs.talk.press_on.Statement.{statement}
+use Rattle.lines.proofs.talk.press_on.Tie as tie
+
+holder-set-requires : tie.Need-holder-set-requires
+holder-set-requires c κs = search needs
+
+new-call-requires : tie.Need-new-call-requires
+new-call-requires c κs = search needs
+
+press-sends-requires : tie.Need-press-sends-requires
+press-sends-requires c κs = search needs
+
+opening-requires : tie.Need-opening-requires
+opening-requires c κs = search needs
+
+opened-by-requires : tie.Need-opened-by-requires
+opened-by-requires c κs = search needs
+
+returns : tie.Need-returns
+unfolding pressOn
+returns c =
+    let on = c .before .before .before .before .press-sends .ensures in
+    let m = c .before .before .before .before .before .before .holder-set .ensures in
+    let new = c .before .before .before .before .before .new-call .ensures in (
+      simp (c .opened-by .ensures, new, m) refl,
+      simp (send-by-send, on .0, on .1, sym (rw (new, m) at (c .before .before .opening .ensures)), m) refl,
+    )
+
+pub press-on-spec : {M : Type 1} → statement M
+press-on-spec =
+    tie.close
+    (tie.spec
+    holder-set-requires
+    new-call-requires
+    press-sends-requires
+    opening-requires
+    opened-by-requires
+    returns)

@@ -1,0 +1,58 @@
+-- `lines::timers::falls` meets its contract: by the tests, the cheapest first.
+-- Assumes nothing.
+use borrow.Author.Needs.{needs}
+use mathlib.Core.Path.{sym}
+use native.Mathlib.Omega.{arith}
+use Rattle.lines.proofs.Ticks.{at-rest, talked, quiet-falls, release-left, release-falls, runs-out}
+use Rattle.lines.proofs.timers.falls.Statement.{statement}
+use Rattle.lines.proofs.timers.falls.Tie as tie
+
+is-held-requires : tie.Need-is-held-requires
+is-held-requires c κs = search needs
+
+returns : tie.Need-returns
+returns c = sym (at-rest _ (rw (c .before .is-held .ensures) at (c .if1 .taken)))
+
+is-present-requires : tie.Need-is-present-requires
+is-present-requires c κs = search needs
+
+returns-2 : tie.Need-returns-2
+returns-2 c = sym (talked _ (rw (c .before .before .is-present .ensures) at (c .if2 .taken)))
+
+sub-t8 : tie.Need-sub-t8
+sub-t8 c = search needs
+
+returns-3 : tie.Need-returns-3
+returns-3 c = sym (quiet-falls _ (rw (c .before .before .before .before .before .is-present .ensures) at (c .before .before .before .if2 .left)) (c .before .if3 .taken))
+
+sub-t9 : tie.Need-sub-t9
+sub-t9 c = omega (arith, release-left (c .before .before .before .before .before .before .before .before .before .before .before .before .args .channel) (c .before .if4 .taken))
+
+returns-4 : tie.Need-returns-4
+returns-4 c =
+    sym
+    (release-falls _ (rw (c .before .before .before .before .before .before .before .before .before .before .is-held .ensures) at (c .before .before .before .before .before .before .before .before .before .if1 .left))
+    (rw (c .before .before .before .before .before .before .before .before .is-present .ensures) at (c .before .before .before .before .before .before .if2 .left))
+    (c .before .if4 .taken))
+
+returns-5 : tie.Need-returns-5
+returns-5 c =
+    sym
+    (runs-out _ (rw (c .before .before .before .before .before .before .before .before .before .is-held .ensures) at (c .before .before .before .before .before .before .before .before .if1 .left))
+    (rw (c .before .before .before .before .before .before .before .is-present .ensures) at (c .before .before .before .before .before .if2 .left))
+    (c .before .before .before .if3 .left)
+    (c .if4 .left))
+
+pub falls-spec : {M : Type 1} → statement M
+falls-spec =
+    tie.close
+    (tie.spec
+    is-held-requires
+    returns
+    is-present-requires
+    returns-2
+    sub-t8
+    returns-3
+    sub-t9
+    returns-4
+    returns-5)

@@ -1,0 +1,25 @@
+-- `lines::timers::run_out_send` meets its contract: by whether the quiet timer runs.
+-- Assumes nothing.
+use borrow.Author.Needs.{needs}
+use mathlib.Core.Path.{refl}
+use borrow.Author.Tests.{lt-ltb, le-ltb}
+use Rattle.lines.specs.Scripts.{runOut}
+use Rattle.lines.proofs.timers.run_out_send.Statement.{statement}
+use Rattle.lines.proofs.timers.run_out_send.Tie as tie
+
+end-requires : tie.Need-end-requires
+end-requires c κs = search needs
+
+freed-requires : tie.Need-freed-requires
+freed-requires c κs = search needs
+
+returns : tie.Need-returns
+unfolding runOut
+returns c = simp (lt-ltb _ _ (c .before .if1 .taken)) (c .end .ensures)
+
+returns-2 : tie.Need-returns-2
+unfolding runOut
+returns-2 c = simp (le-ltb _ _ (c .before .if1 .left), c .freed .ensures) refl
+
+pub run-out-send-spec : {M : Type 1} → statement M
+run-out-send-spec = tie.close (tie.spec end-requires freed-requires returns returns-2)

@@ -1,0 +1,56 @@
+-- `lines::timers::tick_send` meets its contract: by what the tick does to the timers.
+-- Assumes nothing.
+use borrow.Author.Needs.{needs}
+use mathlib.Core.Path.{refl, sym, _∙_}
+use Rattle.lines.specs.Scripts.{heard}
+use Rattle.lines.proofs.Ticks.{tick-falling}
+use Rattle.lines.proofs.timers.tick_send.Statement.{statement}
+use Rattle.lines.proofs.timers.tick_send.Tie as tie
+
+falls-requires : tie.Need-falls-requires
+falls-requires c κs = search needs
+
+enum-told : tie.Need-enum-told
+enum-told c = search needs
+
+enum-told-2 : tie.Need-enum-told-2
+enum-told-2 c = search needs
+
+enum-told-3 : tie.Need-enum-told-3
+enum-told-3 c = search needs
+
+enum-told-4 : tie.Need-enum-told-4
+enum-told-4 c = search needs
+
+run-out-send-requires : tie.Need-run-out-send-requires
+run-out-send-requires c κs = search needs
+
+returns : tie.Need-returns
+unfolding heard
+returns c = simp (tick-falling, sym (c .before .before .falls .ensures) ∙ c .enum-told .given .1) refl
+
+returns-2 : tie.Need-returns-2
+unfolding heard
+returns-2 c = simp (tick-falling, sym (c .before .before .falls .ensures) ∙ c .enum-told2 .given .1) refl
+
+returns-3 : tie.Need-returns-3
+unfolding heard
+returns-3 c = simp (tick-falling, sym (c .before .before .falls .ensures) ∙ c .enum-told3 .given .1) refl
+
+returns-4 : tie.Need-returns-4
+returns-4 c = simp (tick-falling, sym (c .before .before .before .falls .ensures) ∙ c .before .enum-told4 .given .1) (c .run-out-send .ensures)
+
+pub tick-send-spec : {M : Type 1} → statement M
+tick-send-spec =
+    tie.close
+    (tie.spec
+    falls-requires
+    enum-told
+    enum-told-2
+    enum-told-3
+    enum-told-4
+    run-out-send-requires
+    returns
+    returns-2
+    returns-3
+    returns-4)

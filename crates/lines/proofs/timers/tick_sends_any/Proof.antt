@@ -1,0 +1,52 @@
+-- `lines::timers::tick_sends_any` meets its contract: by what the tick does to the timers.
+-- Assumes nothing.
+use borrow.Author.Needs.{needs}
+use mathlib.Core.Path.{refl, sym, _∙_}
+use Rattle.lines.proofs.Ticks.{tick-falling, any-run-out}
+use Rattle.lines.proofs.timers.tick_sends_any.Statement.{statement}
+use Rattle.lines.proofs.timers.tick_sends_any.Tie as tie
+
+falls-requires : tie.Need-falls-requires
+falls-requires c κs = search needs
+
+enum-told : tie.Need-enum-told
+enum-told c = search needs
+
+enum-told-2 : tie.Need-enum-told-2
+enum-told-2 c = search needs
+
+enum-told-3 : tie.Need-enum-told-3
+enum-told-3 c = search needs
+
+enum-told-4 : tie.Need-enum-told-4
+enum-told-4 c = search needs
+
+is-open-requires : tie.Need-is-open-requires
+is-open-requires c κs = search needs
+
+returns : tie.Need-returns
+returns c x = simp (tick-falling, sym (c .before .before .falls .ensures) ∙ c .enum-told .given .1) refl
+
+returns-2 : tie.Need-returns-2
+returns-2 c x = simp (tick-falling, sym (c .before .before .falls .ensures) ∙ c .enum-told2 .given .1) refl
+
+returns-3 : tie.Need-returns-3
+returns-3 c x = simp (tick-falling, sym (c .before .before .falls .ensures) ∙ c .enum-told3 .given .1) refl
+
+returns-4 : tie.Need-returns-4
+returns-4 c x = simp (tick-falling, sym (c .before .before .before .before .falls .ensures) ∙ c .before .before .enum-told4 .given .1, any-run-out, c .is-open .ensures) refl
+
+pub tick-sends-any-spec : {M : Type 1} → statement M
+tick-sends-any-spec =
+    tie.close
+    (tie.spec
+    falls-requires
+    enum-told
+    enum-told-2
+    enum-told-3
+    enum-told-4
+    is-open-requires
+    returns
+    returns-2
+    returns-3
+    returns-4)

@@ -1,0 +1,52 @@
+-- `lines::timers::ticked` meets its contract: by what the tick does to the timers.
+-- Assumes nothing.
+use borrow.Author.Needs.{needs}
+use mathlib.Core.Path.{refl, sym, _∙_}
+use Rattle.lines.proofs.Ticks.{tick-falling}
+use Rattle.lines.proofs.timers.ticked.Statement.{statement}
+use Rattle.lines.proofs.timers.ticked.Tie as tie
+
+falls-requires : tie.Need-falls-requires
+falls-requires c κs = search needs
+
+enum-told : tie.Need-enum-told
+enum-told c = search needs
+
+enum-known-falling : tie.Need-enum-known-falling
+enum-known-falling c = search needs
+
+enum-known-falling-2 : tie.Need-enum-known-falling-2
+enum-known-falling-2 c = search needs
+
+enum-told-2 : tie.Need-enum-told-2
+enum-told-2 c = search needs
+
+run-out-requires : tie.Need-run-out-requires
+run-out-requires c κs = search needs
+
+returns : tie.Need-returns
+returns c x = rw (tick-falling, sym (c .before .before .falls .ensures) ∙ c .enum-told .given .1) refl
+
+returns-2 : tie.Need-returns-2
+returns-2 c x = rw (tick-falling, sym (c .before .before .before .falls .ensures) ∙ c .before .falling .given .1) refl
+
+returns-3 : tie.Need-returns-3
+returns-3 c x = rw (tick-falling, sym (c .before .before .before .falls .ensures) ∙ c .before .falling2 .given .1) refl
+
+returns-4 : tie.Need-returns-4
+returns-4 c x = rw (tick-falling, sym (c .before .before .before .falls .ensures) ∙ c .before .enum-told2 .given .1) (c .run-out .ensures x)
+
+pub ticked-spec : {M : Type 1} → statement M
+ticked-spec =
+    tie.close
+    (tie.spec
+    falls-requires
+    enum-told
+    enum-known-falling
+    enum-known-falling-2
+    enum-told-2
+    run-out-requires
+    returns
+    returns-2
+    returns-3
+    returns-4)

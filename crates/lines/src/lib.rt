@@ -1,0 +1,13 @@
+// The line rules of one channel, as code: a function a rule, over small functions for what a rule chooses and sends. Each
+// gives the channel after the rule, and what the rule sends.
+mod choices;
+mod holding;
+mod rules;
+mod sends;
+mod talk;
+mod timers;
+
+pub use rules::happens;
+pub use rules::sends_any;
+pub use timers::falls;
+pub use timers::ticked;
