@@ -26,6 +26,10 @@ abbrev pub freeChannel : ℕ → ℕ → Channel
 freeChannel k m =
     record { code = k; entitled = m; holder = Nobody; pressed = false; call = Closed; arrival = Absent; quiet = 0; release = 0 }
 
+abbrev pub isHeld : Holder → Bool
+isHeld Nobody = false
+isHeld (Held d) = true
+
 abbrev pub heldBy : ℕ → Holder → Bool
 heldBy d Nobody = false
 heldBy d (Held h) = eqb h d

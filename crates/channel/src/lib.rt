@@ -5,6 +5,7 @@ mod state;
 pub use queries::first_desks;
 pub use queries::held_by;
 pub use queries::holder_place;
+pub use queries::is_held;
 pub use queries::is_in;
 pub use queries::is_present;
 pub use queries::only;

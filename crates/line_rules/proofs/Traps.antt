@@ -65,8 +65,10 @@ unfolding tick
 one-timer-at-a-time x c q =
     either (c .pressed) _ _ (c .release) refl (either (isPresent (c .arrival)) _ _ (c .release) refl (idle-keeps x c q))
 
--- 130 ticks of a held channel with no press and no arrival
-quietly : ℕ → ℕ → ℕ → Call → Channel
+-- ---- 130 ticks
+
+-- a held channel with no press and no arrival, its timers just started
+unfoldable pub quietly : ℕ → ℕ → ℕ → Call → Channel
 quietly code entitled d k =
     record { code = code; entitled = entitled; holder = Held d; pressed = false; call = k; arrival = Absent; quiet = quietTime; release = releaseTime }
 

@@ -5,7 +5,7 @@ use mathlib.Core.Bool.{Bool, true, false, cond}
 use lib.Dec.{leb, ltb, eqb}
 use Rattle.telegram.specs.Telegram.{num}
 use Rattle.telegram.specs.declared.message.Number.{Number}
-use Rattle.channel.specs.State.{only, freeChannel, heldBy, holderPlace, isPresent}
+use Rattle.channel.specs.State.{only, freeChannel, isHeld, heldBy, holderPlace, isPresent}
 use Rattle.channel.specs.declared.state.Holder.{Holder}
 use Rattle.channel.specs.declared.state.Holder.the-variants.{Nobody, Held}
 use Rattle.channel.specs.declared.state.Call.{Call}
@@ -86,10 +86,6 @@ withRelease n c =
     record { code = c .code; entitled = c .entitled; holder = c .holder; pressed = c .pressed; call = c .call; arrival = c .arrival; quiet = c .quiet; release = n }
 
 -- ---- choices by what the channel has
-
-abbrev pub isHeld : Holder → Bool
-isHeld Nobody = false
-isHeld (Held d) = true
 
 -- the holder, as a set
 abbrev pub holderSet : Holder → ℕ

@@ -13,9 +13,9 @@ use borrow.Author.Tests.{eqb-true}
 use Rattle.channel.specs.State.{holderPlace}
 use Rattle.line_rules.specs.Rules.{Context, Step, tick, happens}
 use Rattle.channel.specs.declared.state.Channel.{Channel}
-use Rattle.lines.specs.Scripts.{any, falling, tickBy}
+use Rattle.timers.specs.Falls.{falling, tickBy}
 use Rattle.channel.specs.declared.state.Falling.{Falling}
-use Rattle.lines.proofs.Ticks.{tick-falling}
+use Rattle.timers.proofs.Ticks.{tick-falling}
 use Rattle.channel.specs.declared.state.Event.{Event}
 use Rattle.channel.specs.declared.state.Event.the-variants.{Tick}
 use Rattle.records.proofs.Writing.{Split}
@@ -26,7 +26,6 @@ use Rattle.set_rules.specs.declared.state.Desk.{Desk}
 use Rattle.set_rules.specs.declared.state.LineSet.{LineSet}
 use Rattle.changes.specs.Changes.{contextIn}
 use Rattle.line_set.specs.Steps.{sendsIn, sendsFrom}
-use Rattle.line_set.proofs.Emission.{nothing-sent}
 use Rattle.line_set.proofs.Seeking.{take-count, drop-count}
 
 space-append : (vs ws : List Delivery) → spaceOf (vs ++ ws) ≡ spaceOf vs + spaceOf ws
@@ -88,11 +87,11 @@ module _ (ds : List Desk) (n : ℕ) (v : Event) (cs : List Channel) where
 
 -- ---- what a tick sends where no timer runs out
 
-silent-space : (ds : List Desk) (n : ℕ) (c : Channel) → ((x : Context) → any (tick x c .sends) ≡ false) → spaceOf (sentBy ds n Tick [] c) ≡ 0
+silent-space : (ds : List Desk) (n : ℕ) (c : Channel) → ((x : Context) → tick x c .sends ≡ []) → spaceOf (sentBy ds n Tick [] c) ≡ 0
 unfolding happens spaceOf delivered
-silent-space ds n c h = rw (nothing-sent (tick (contextIn ds n c (holderPlace (c .holder))) c .sends) (h (contextIn ds n c (holderPlace (c .holder))))) refl
+silent-space ds n c h = rw (h (contextIn ds n c (holderPlace (c .holder)))) refl
 
-pub sum-silent : (ds : List Desk) (n : ℕ) (cs : List Channel) (i : ℕ) (z : Channel) → i < length cs → ((x : Context) → any (tick x (getD cs i z) .sends) ≡ false)
+pub sum-silent : (ds : List Desk) (n : ℕ) (cs : List Channel) (i : ℕ) (z : Channel) → i < length cs → ((x : Context) → tick x (getD cs i z) .sends ≡ [])
     → Summed ds n Tick cs i 0 → Summed ds n Tick cs (i + 1) 0
 sum-silent ds n cs i z h k m = sum-next ds n Tick cs i z 0 0 h (sym (silent-space ds n (getD cs i z) k)) (omega arith) m
 

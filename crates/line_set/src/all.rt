@@ -99,7 +99,7 @@ fn ticked(mut set: LineSet) -> TickedSet
     let mut i = 0;
     while i < end {
         let c = set.channels[i];
-        let falling = lines::falls(c);
+        let falling = timers::falls(c);
         match falling {
             Falling::Neither => {}
             Falling::Quiet(left) => {
@@ -109,7 +109,7 @@ fn ticked(mut set: LineSet) -> TickedSet
                 set.channels[i].release = left;
             }
             Falling::Due => {
-                let next = lines::ticked(c);
+                let next = timers::ticked(c);
                 set.channels[i] = next;
                 due = true;
             }

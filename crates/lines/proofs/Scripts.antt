@@ -1,12 +1,15 @@
 -- Laws of what is heard of a script, and of whether anything is sent at all.
 -- Assumes nothing.
-use Prim.Native.Nat.{ℕ}
+use Prim.Native.Nat.{ℕ, _≤_, _<_}
 use mathlib.Core.List.{List, [], _∷_, _++_, append-assoc, append-nil}
 use mathlib.Core.Bool.{Bool, true, false, cond, _||_, or-true, or-assoc}
 use mathlib.Core.Path.{_≡_, refl}
+use native.Mathlib.Omega.{arith}
 use lib.Dec.{eqb}
-use Rattle.channel.specs.State.{heldBy, isPresent}
-use Rattle.line_rules.specs.Rules.{Context, Step, to, when, endOf, mobileOffSends, isHeld, isOpen, captureAt, capture, release, cut, handover}
+use borrow.Author.Tests.{lt-ltb, le-ltb, eqb-true, eqb-false}
+use Rattle.channel.specs.State.{isHeld, heldBy, isPresent}
+use Rattle.line_rules.specs.Rules.{Context, Step, to, when, endOf, mobileOffSends, isOpen, captureAt, capture, release, cut, handover}
+use Rattle.timers.specs.Falls.{runOut}
 use Rattle.lines.specs.Scripts.{heard, any}
 use Rattle.channel.specs.declared.state.Holder.{Holder}
 use Rattle.channel.specs.declared.state.Holder.the-variants.{Nobody, Held}
@@ -103,3 +106,16 @@ any-cut x c = simp (any-append, or-true) refl
 pub any-handover : (x : Context) (c : Channel) → any (handover x c .sends) ≡ (c .pressed || isPresent (c .arrival) || isOpen (c .call) || isHeld (c .holder))
 unfolding handover
 any-handover x c = simp (any-append, any-when, any-end, any-mobile-off, or-assoc) refl
+
+-- where a timer runs out: the end of a call, or that the channel is free
+pub any-run-out : (x : Context) (c : Channel) → any (runOut x c .sends) ≡ (eqb (c .quiet) 0 || isOpen (c .call))
+unfolding runOut
+any-run-out x c = go (eqb (c .quiet) 0) refl
+  where
+    go : (t : Bool) → eqb (c .quiet) 0 ≡ t → any (runOut x c .sends) ≡ (eqb (c .quiet) 0 || isOpen (c .call))
+    go true e =
+        let stopped : c .quiet ≤ 0 = omega (arith, eqb-true (c .quiet) 0 e) in
+        simp (e, le-ltb 0 (c .quiet) stopped) refl
+    go false e =
+        let runs : 0 < c .quiet = omega (arith, eqb-false (c .quiet) 0 e) in
+        simp (e, lt-ltb 0 (c .quiet) runs, any-end) refl

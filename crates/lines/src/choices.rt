@@ -3,13 +3,14 @@ use channel::Arrival;
 use channel::Call;
 use channel::Channel;
 use channel::Holder;
+use channel::is_held;
 use channel::is_present;
 use channel::only;
 use telegram::Number;
 ghost use mathlib.Core.Path.{_≡_};
 ghost use mathlib.Core.Bool.{cond};
-ghost use Rattle.channel.specs.State.{isPresent};
-ghost use Rattle.line_rules.specs.Rules.{quietTime, releaseTime, general, isHeld, holderSet, isOpen, openedBy, kindOf, mobileRecipients};
+ghost use Rattle.channel.specs.State.{isHeld, isPresent};
+ghost use Rattle.line_rules.specs.Rules.{quietTime, releaseTime, general, holderSet, isOpen, openedBy, kindOf, mobileRecipients};
 ghost use Rattle.channel.specs.declared.state.Call.the-variants.{Open};
 
 // The type of every call (01: "Type is always 1").
@@ -17,15 +18,6 @@ pub const GENERAL: u8 = 1;
 
 // The empty set.
 pub const NOBODY: u8 = 0;
-
-pub fn is_held(holder: Holder) -> bool
-    ensures { λ r. ⌜ r ≡ isHeld holder ⌝ }
-{
-    match holder {
-        Holder::Nobody => false,
-        Holder::Held(_) => true,
-    }
-}
 
 pub fn is_open(call: Call) -> bool
     ensures { λ r. ⌜ r ≡ isOpen call ⌝ }

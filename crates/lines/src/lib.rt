@@ -5,9 +5,7 @@ mod holding;
 mod rules;
 mod sends;
 mod talk;
-mod timers;
+mod ticking;
 
 pub use rules::happens;
 pub use rules::sends_any;
-pub use timers::falls;
-pub use timers::ticked;

@@ -1,6 +1,5 @@
 // What happens on a channel by its event, and whether that sends anything. The handover, which ends all, is here too.
 use super::choices::holder_set;
-use super::choices::is_held;
 use super::choices::is_open;
 use super::choices::set_if;
 use super::holding::capture;
@@ -14,11 +13,12 @@ use super::talk::mobile_off;
 use super::talk::mobile_on;
 use super::talk::press_off;
 use super::talk::press_on;
-use super::timers::tick;
-use super::timers::tick_sends_any;
+use super::ticking::tick;
+use super::ticking::tick_sends_any;
 use channel::Channel;
 use channel::Event;
 use channel::Moved;
+use channel::is_held;
 use channel::is_present;
 use telegram::Number;
 ghost use mathlib.Core.Path.{_≡_};

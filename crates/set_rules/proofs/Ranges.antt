@@ -13,8 +13,8 @@ use Rattle.telegram.specs.Telegram.{num, inRange, sendable}
 use Rattle.telegram.specs.declared.message.Number.{Number}
 use Rattle.telegram.specs.declared.message.Message.{Message}
 use Rattle.telegram.specs.declared.message.Message.the-variants.{CaptureState as State}
-use Rattle.channel.specs.State.{heldBy, isPresent, holderPlace}
-use Rattle.line_rules.specs.Rules.{Context, Step, step, to, when, happens, capture, captureAt, cut, release, pressOn, pressOff, mobileOn, mobileOff, tick, tickIdle, tickQuiet, tickRelease, handover, isHeld, isOpen, openedBy, openingSends, startOf, endOf, kindOf, pressOffSends, pressCall, mobileCall, mobileOffSends, freedSends, mobileRecipients, holderSet}
+use Rattle.channel.specs.State.{isHeld, heldBy, isPresent, holderPlace}
+use Rattle.line_rules.specs.Rules.{Context, Step, step, to, when, happens, capture, captureAt, cut, release, pressOn, pressOff, mobileOn, mobileOff, tick, tickIdle, tickQuiet, tickRelease, handover, isOpen, openedBy, openingSends, startOf, endOf, kindOf, pressOffSends, pressCall, mobileCall, mobileOffSends, freedSends, mobileRecipients, holderSet}
 use Rattle.line_rules.specs.Notices.{Content, telegram, contact, contentFor}
 use Rattle.channel.specs.declared.state.Holder.{Holder}
 use Rattle.channel.specs.declared.state.Holder.the-variants.{Nobody, Held}

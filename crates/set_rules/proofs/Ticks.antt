@@ -9,7 +9,8 @@ use lib.Dec.{eqb, leb, ltb}
 use lib.ListN.{length, replicate, take, drop, set}
 use borrow.Author.Tests.{eqb-true, eq-eqb, ltb-true}
 use Rattle.channel.specs.State.{isIn, holderPlace}
-use Rattle.line_rules.specs.Rules.{Context, Step, to, happens, pressOff, tick, tickIdle, tickQuiet, tickRelease, quietTime, releaseTime, endOf, freedSends}
+use Rattle.line_rules.specs.Rules.{Context, Step, to, happens, pressOff, tick, tickIdle, tickQuiet, tickRelease, endOf, freedSends}
+use Rattle.line_rules.proofs.Traps.{quietly}
 use Rattle.channel.specs.declared.state.Holder.the-variants.{Held}
 use Rattle.channel.specs.declared.state.Call.{Call}
 use Rattle.channel.specs.declared.state.Arrival.the-variants.{Absent}
@@ -69,10 +70,6 @@ bytes-of (room ∷ rooms) s p a =
     rw (k .bytes-are, k .after-is, r)
 
 -- ---- 130 ticks of a set with one channel, held, with no press and no arrival
-
-quietly : ℕ → ℕ → ℕ → Call → Channel
-quietly code entitled d k =
-    record { code = code; entitled = entitled; holder = Held d; pressed = false; call = k; arrival = Absent; quiet = quietTime; release = releaseTime }
 
 abbrev setWith : Channel → List Channel → List Desk → ℕ → LineSet
 setWith c rest ds n = record { channels = c ∷ rest; desks = ds; size = record { desks = n; channels = 1 }; planned = true }

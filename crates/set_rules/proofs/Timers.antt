@@ -13,8 +13,8 @@ use Rattle.telegram.specs.Telegram.{nth, rowOf, valuesOf, readTelegram}
 use Rattle.telegram.specs.declared.message.Reading.{Reading}
 use Rattle.telegram.specs.declared.message.Reading.the-variants.{Telegram, Refused}
 use Rattle.telegram.specs.declared.message.Number.{Number}
-use Rattle.channel.specs.State.{holderPlace, heldBy, isPresent}
-use Rattle.line_rules.specs.Rules.{Context, Step, step, happens, capture, captureAt, cut, release, pressOn, pressOff, mobileOn, mobileOff, tick, tickIdle, tickQuiet, tickRelease, handover, isHeld, isOpen, openedBy, pressCall, mobileCall, mobileRecipients}
+use Rattle.channel.specs.State.{isHeld, holderPlace, heldBy, isPresent}
+use Rattle.line_rules.specs.Rules.{Context, Step, step, happens, capture, captureAt, cut, release, pressOn, pressOff, mobileOn, mobileOff, tick, tickIdle, tickQuiet, tickRelease, handover, isOpen, openedBy, pressCall, mobileCall, mobileRecipients}
 use Rattle.channel.specs.declared.state.Holder.{Holder}
 use Rattle.channel.specs.declared.state.Holder.the-variants.{Nobody, Held}
 use Rattle.channel.specs.declared.state.Call.{Call}

@@ -6,8 +6,8 @@ use mathlib.Core.Path.{_≡_}
 use lib.Dec.{leb, ltb}
 use Rattle.fields.specs.Fields.{between}
 use Rattle.telegram.specs.declared.message.Number.{Number}
-use Rattle.channel.specs.State.{isPresent}
-use Rattle.line_rules.specs.Rules.{isOpen, isHeld}
+use Rattle.channel.specs.State.{isHeld, isPresent}
+use Rattle.line_rules.specs.Rules.{isOpen}
 use Rattle.channel.specs.declared.state.Call.{Call}
 use Rattle.channel.specs.declared.state.Call.the-variants.{Closed, Open}
 use Rattle.channel.specs.declared.state.Arrival.{Arrival}

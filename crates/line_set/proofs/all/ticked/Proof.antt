@@ -5,8 +5,7 @@ use mathlib.Core.Path.{_≡_, refl, sym, ap, subst, _∙_}
 use native.Mathlib.Omega.{arith}
 use lib.ListN.{length, set, getD, length-map}
 use Rattle.line_rules.specs.Rules.{Context, tick}
-use Rattle.lines.specs.Scripts.{any}
-use Rattle.lines.proofs.Ticks.{silent-neither, silent-quiet, silent-release}
+use Rattle.timers.proofs.Ticks.{silent-neither, silent-quiet, silent-release}
 use Rattle.channel.specs.declared.state.Channel.{Channel}
 use Rattle.channel.specs.declared.state.Event.the-variants.{Tick}
 use Rattle.set_rules.specs.State.{noChannel, channelsOf, withChannels}
@@ -21,8 +20,8 @@ use Rattle.line_set.proofs.all.ticked.Statement.{statement}
 use Rattle.line_set.proofs.all.ticked.Tie as tie
 use Rattle.line_set.proofs.all.ticked.Reads as reads
 use Rattle.line_set.proofs.all.ticked.Lts as lts
-use Rattle.lines.proofs.falls.Reads as falls-reads
-use Rattle.lines.proofs.ticked.Reads as ticked-reads
+use Rattle.timers.proofs.falls.Reads as falls-reads
+use Rattle.timers.proofs.ticked.Reads as ticked-reads
 use Rattle.line_set.proofs.places.count_of.Reads as count-of-reads
 
 -- the first i channels are ticked, nothing else has changed, and where no timer ran out nothing is sent
@@ -133,21 +132,21 @@ loop-again c =
         tick-kept (s .channels) (l .i) _ noChannel (l .set .channels) h (λ x. fall-next x _ _ _ (falls ∙ a .1 .given .1) g) (l .inv .0),
         far,
         l .inv .2,
-        λ z. sum-silent (s .desks) (s .size .desks) (channelsOf s) (l .i) noChannel h′ (λ x. ap (λ (k : Channel). any (tick x k .sends)) (sym g′) ∙ silent-neither x _ (falls ∙ a .1 .given .1)) (l .inv .3 z),
+        λ z. sum-silent (s .desks) (s .size .desks) (channelsOf s) (l .i) noChannel h′ (λ x. ap (λ (k : Channel). tick x k .sends) (sym g′) ∙ silent-neither x _ (falls ∙ a .1 .given .1)) (l .inv .3 z),
       )
       | inr b ↦ elim b [
         | inl a ↦ joined s end (l .i + 1) (a .4) (a .5) (
           tick-next (s .channels) (l .i) noChannel (l .set .channels) _ h (λ x. fall-next x _ _ _ (falls ∙ a .1 .given .1) g) (l .inv .0),
           far,
           restored _ (l .set) s refl (l .inv .2),
-          λ z. sum-silent (s .desks) (s .size .desks) (channelsOf s) (l .i) noChannel h′ (λ x. ap (λ (k : Channel). any (tick x k .sends)) (sym g′) ∙ silent-quiet x _ _ (falls ∙ a .1 .given .1)) (l .inv .3 z),
+          λ z. sum-silent (s .desks) (s .size .desks) (channelsOf s) (l .i) noChannel h′ (λ x. ap (λ (k : Channel). tick x k .sends) (sym g′) ∙ silent-quiet x _ _ (falls ∙ a .1 .given .1)) (l .inv .3 z),
         )
         | inr d ↦ elim d [
           | inl a ↦ joined s end (l .i + 1) (a .4) (a .5) (
             tick-next (s .channels) (l .i) noChannel (l .set .channels) _ h (λ x. fall-next x _ _ _ (falls ∙ a .1 .given .1) g) (l .inv .0),
             far,
             restored _ (l .set) s refl (l .inv .2),
-            λ z. sum-silent (s .desks) (s .size .desks) (channelsOf s) (l .i) noChannel h′ (λ x. ap (λ (k : Channel). any (tick x k .sends)) (sym g′) ∙ silent-release x _ _ (falls ∙ a .1 .given .1)) (l .inv .3 z),
+            λ z. sum-silent (s .desks) (s .size .desks) (channelsOf s) (l .i) noChannel h′ (λ x. ap (λ (k : Channel). tick x k .sends) (sym g′) ∙ silent-release x _ _ (falls ∙ a .1 .given .1)) (l .inv .3 z),
           )
           | inr a ↦ joined s end (l .i + 1) (a .3) (a .4) (
             tick-next (s .channels) (l .i) noChannel (l .set .channels) _ h (λ x. a .2 .ensures x ∙ ap (λ (k : Channel). tick x k .next) g) (l .inv .0),

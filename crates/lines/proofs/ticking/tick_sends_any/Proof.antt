@@ -1,10 +1,11 @@
--- `lines::timers::tick_sends_any` meets its contract: by what the tick does to the timers.
+-- `lines::ticking::tick_sends_any` meets its contract: by what the tick does to the timers.
 -- Assumes nothing.
 use borrow.Author.Needs.{needs}
 use mathlib.Core.Path.{refl, sym, _∙_}
-use Rattle.lines.proofs.Ticks.{tick-falling, any-run-out}
-use Rattle.lines.proofs.timers.tick_sends_any.Statement.{statement}
-use Rattle.lines.proofs.timers.tick_sends_any.Tie as tie
+use Rattle.timers.proofs.Ticks.{tick-falling}
+use Rattle.lines.proofs.Scripts.{any-run-out}
+use Rattle.lines.proofs.ticking.tick_sends_any.Statement.{statement}
+use Rattle.lines.proofs.ticking.tick_sends_any.Tie as tie
 
 falls-requires : tie.Need-falls-requires
 falls-requires c κs = search needs

@@ -1,22 +1,13 @@
-// The timers of a channel: which one falls at a tick, and what happens when it runs out.
-use super::choices::is_held;
-use super::choices::is_open;
-use super::sends::SILENT;
-use super::sends::alone;
-use super::sends::end;
-use super::sends::freed;
+// The timers of a channel: which one falls at a tick, and the channel after it.
 use channel::Call;
 use channel::Channel;
 use channel::Falling;
 use channel::Holder;
-use channel::Moved;
-use channel::Send;
+use channel::is_held;
 use channel::is_present;
-use telegram::Number;
 ghost use mathlib.Core.Path.{_≡_};
-ghost use mathlib.Core.List.{[], _∷_};
 ghost use Rattle.line_rules.specs.Rules.{Context, tick};
-ghost use Rattle.lines.specs.Scripts.{Follows, heard, context, any, falling, runOut};
+ghost use Rattle.timers.specs.Falls.{falling, runOut};
 
 // What a tick does to the timers. Most channels are at rest, so that is asked first.
 pub fn falls(channel: Channel) -> Falling
@@ -86,55 +77,5 @@ pub fn ticked(mut channel: Channel) -> Channel
             channel
         }
         Falling::Due => run_out(channel),
-    }
-}
-
-// What is sent when a timer runs out.
-fn run_out_send(listeners: u8, own: Number, channel: Channel) -> Send
-    ensures { λ r. ⌜ heard (r ∷ []) ≡ heard (runOut (context listeners own) channel .sends) ⌝ }
-{
-    let call = channel.call;
-    let holder = channel.holder;
-    if 0 < channel.quiet {
-        end(3, call)
-    } else {
-        freed(listeners, own, holder)
-    }
-}
-
-// What a tick sends.
-fn tick_send(listeners: u8, own: Number, channel: Channel) -> Send
-    ensures { λ r. ⌜ heard (r ∷ []) ≡ heard (tick (context listeners own) channel .sends) ⌝ }
-{
-    let falling = falls(channel);
-    match falling {
-        Falling::Neither => SILENT,
-        Falling::Quiet(_) => SILENT,
-        Falling::Release(_) => SILENT,
-        Falling::Due => run_out_send(listeners, own, channel),
-    }
-}
-
-pub fn tick(listeners: u8, own: Number, channel: Channel) -> Moved
-    ensures { λ r. ⌜ Follows r (tick (context listeners own) channel) ⌝ }
-{
-    let send = tick_send(listeners, own, channel);
-    let next = ticked(channel);
-    alone(next, send)
-}
-
-// Whether a tick sends anything.
-pub fn tick_sends_any(channel: Channel) -> bool
-    ensures { λ r. ⌜ ((x : Context) → r ≡ any (tick x channel .sends)) ⌝ }
-{
-    let falling = falls(channel);
-    match falling {
-        Falling::Neither => false,
-        Falling::Quiet(_) => false,
-        Falling::Release(_) => false,
-        Falling::Due => {
-            let call = channel.call;
-            (channel.quiet == 0) | is_open(call)
-        }
     }
 }

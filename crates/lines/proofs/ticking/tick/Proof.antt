@@ -1,9 +1,9 @@
--- `lines::timers::tick` meets its contract: the channel and the send are the rule's.
+-- `lines::ticking::tick` meets its contract: the channel and the send are the rule's.
 -- Assumes nothing.
 use borrow.Author.Needs.{needs}
 use mathlib.Core.Path.{_∙_}
-use Rattle.lines.proofs.timers.tick.Statement.{statement}
-use Rattle.lines.proofs.timers.tick.Tie as tie
+use Rattle.lines.proofs.ticking.tick.Statement.{statement}
+use Rattle.lines.proofs.ticking.tick.Tie as tie
 
 tick-send-requires : tie.Need-tick-send-requires
 tick-send-requires c κs = search needs

@@ -1,11 +1,11 @@
--- `lines::timers::tick_send` meets its contract: by what the tick does to the timers.
+-- `lines::ticking::tick_send` meets its contract: by what the tick does to the timers.
 -- Assumes nothing.
 use borrow.Author.Needs.{needs}
 use mathlib.Core.Path.{refl, sym, _∙_}
 use Rattle.lines.specs.Scripts.{heard}
-use Rattle.lines.proofs.Ticks.{tick-falling}
-use Rattle.lines.proofs.timers.tick_send.Statement.{statement}
-use Rattle.lines.proofs.timers.tick_send.Tie as tie
+use Rattle.timers.proofs.Ticks.{tick-falling}
+use Rattle.lines.proofs.ticking.tick_send.Statement.{statement}
+use Rattle.lines.proofs.ticking.tick_send.Tie as tie
 
 falls-requires : tie.Need-falls-requires
 falls-requires c κs = search needs

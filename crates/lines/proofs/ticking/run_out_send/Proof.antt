@@ -1,11 +1,11 @@
--- `lines::timers::run_out_send` meets its contract: by whether the quiet timer runs.
+-- `lines::ticking::run_out_send` meets its contract: by whether the quiet timer runs.
 -- Assumes nothing.
 use borrow.Author.Needs.{needs}
 use mathlib.Core.Path.{refl}
 use borrow.Author.Tests.{lt-ltb, le-ltb}
-use Rattle.lines.specs.Scripts.{runOut}
-use Rattle.lines.proofs.timers.run_out_send.Statement.{statement}
-use Rattle.lines.proofs.timers.run_out_send.Tie as tie
+use Rattle.timers.specs.Falls.{runOut}
+use Rattle.lines.proofs.ticking.run_out_send.Statement.{statement}
+use Rattle.lines.proofs.ticking.run_out_send.Tie as tie
 
 end-requires : tie.Need-end-requires
 end-requires c κs = search needs

@@ -1,18 +1,19 @@
 -- A tick goes by what it does to the timers, and how the tests of the code tell what that is.
 -- Assumes nothing.
 use Prim.Native.Nat.{ℕ, _-_, _<_, _≤_}
+use mathlib.Core.List.{[]}
 use mathlib.Core.Bool.{Bool, true, false, cond, not, _&&_, _||_}
 use mathlib.Core.Path.{_≡_, refl, sym, _∙_}
 use borrow.Author.Tests.{lt-ltb, le-ltb, lt-leb, le-leb, eqb-true, eqb-false, ltb-true, ltb-false, not-true, not-false}
 use native.Mathlib.Omega.{arith}
 use lib.Dec.{eqb, leb, ltb}
-use Rattle.channel.specs.State.{isPresent}
-use Rattle.line_rules.specs.Rules.{Context, Step, tick, tickIdle, tickQuiet, tickRelease, isHeld, isOpen}
-use Rattle.lines.specs.Scripts.{falling, runOut, tickBy, any}
+use Rattle.fields.proofs.DigitLaws.{both}
+use Rattle.channel.specs.State.{isHeld, isPresent}
+use Rattle.line_rules.specs.Rules.{Context, Step, tick, tickIdle, tickQuiet, tickRelease}
+use Rattle.timers.specs.Falls.{falling, runOut, tickBy}
 use Rattle.channel.specs.declared.state.Channel.{Channel}
 use Rattle.channel.specs.declared.state.Falling.{Falling}
 use Rattle.channel.specs.declared.state.Falling.the-variants.{Neither, Quiet, Release, Due}
-use Rattle.lines.proofs.Scripts.{any-end}
 
 by-cond : (t : Bool) (a b : Falling) (x : Context) (c : Channel) → tickBy (cond t a b) x c ≡ cond t (tickBy a x c) (tickBy b x c)
 by-cond true a b x c = refl
@@ -40,36 +41,16 @@ pub tick-falling : (x : Context) (c : Channel) → tick x c ≡ tickBy (falling 
 unfolding tick falling
 tick-falling x c = simp (by-cond, idle-by) refl
 
--- ---- what is sent
+-- ---- what is sent: nothing, unless a timer runs out
 
--- nothing, unless a timer runs out
-pub silent-neither : (x : Context) (c : Channel) → falling c ≡ Neither → any (tick x c .sends) ≡ false
+pub silent-neither : (x : Context) (c : Channel) → falling c ≡ Neither → tick x c .sends ≡ []
 silent-neither x c e = simp (tick-falling, e) refl
 
-pub silent-quiet : (x : Context) (c : Channel) (q : ℕ) → falling c ≡ Quiet q → any (tick x c .sends) ≡ false
+pub silent-quiet : (x : Context) (c : Channel) (q : ℕ) → falling c ≡ Quiet q → tick x c .sends ≡ []
 silent-quiet x c q e = simp (tick-falling, e) refl
 
-pub silent-release : (x : Context) (c : Channel) (r : ℕ) → falling c ≡ Release r → any (tick x c .sends) ≡ false
+pub silent-release : (x : Context) (c : Channel) (r : ℕ) → falling c ≡ Release r → tick x c .sends ≡ []
 silent-release x c r e = simp (tick-falling, e) refl
-
-pub silent-unless-due : (x : Context) (c : Channel) (f : Falling) → falling c ≡ f → (f ≡ Due → ⊥) → any (tick x c .sends) ≡ false
-silent-unless-due x c Neither e n = silent-neither x c e
-silent-unless-due x c (Quiet q) e n = silent-quiet x c q e
-silent-unless-due x c (Release r) e n = silent-release x c r e
-silent-unless-due x c Due e n = absurd (n refl)
-
--- where a timer runs out: the end of a call, or that the channel is free
-pub any-run-out : (x : Context) (c : Channel) → any (runOut x c .sends) ≡ (eqb (c .quiet) 0 || isOpen (c .call))
-unfolding runOut
-any-run-out x c = go (eqb (c .quiet) 0) refl
-  where
-    go : (t : Bool) → eqb (c .quiet) 0 ≡ t → any (runOut x c .sends) ≡ (eqb (c .quiet) 0 || isOpen (c .call))
-    go true e =
-        let stopped : c .quiet ≤ 0 = omega (arith, eqb-true (c .quiet) 0 e) in
-        simp (e, le-ltb 0 (c .quiet) stopped) refl
-    go false e =
-        let runs : 0 < c .quiet = omega (arith, eqb-false (c .quiet) 0 e) in
-        simp (e, lt-ltb 0 (c .quiet) runs, any-end) refl
 
 -- ---- the tests
 
@@ -82,10 +63,6 @@ talk : (p a : Bool) (f : Falling) → (p || a) ≡ true → cond p Neither (cond
 talk true a f h = refl
 talk false true f h = refl
 talk false false f h = cc
-
-both : (a b : Bool) → (a && b) ≡ true → (a ≡ true) × (b ≡ true)
-both true b h = (refl, h)
-both false b h = (h, cc)
 
 neither : (a b : Bool) → (a || b) ≡ false → (a ≡ false) × (b ≡ false)
 neither true b h = (h, cc)

@@ -1,11 +1,11 @@
--- `lines::timers::falls` meets its contract: by the tests, the cheapest first.
+-- `timers::timers::falls` meets its contract: by the tests, the cheapest first.
 -- Assumes nothing.
 use borrow.Author.Needs.{needs}
 use mathlib.Core.Path.{sym}
 use native.Mathlib.Omega.{arith}
-use Rattle.lines.proofs.Ticks.{at-rest, talked, quiet-falls, release-left, release-falls, runs-out}
-use Rattle.lines.proofs.timers.falls.Statement.{statement}
-use Rattle.lines.proofs.timers.falls.Tie as tie
+use Rattle.timers.proofs.Ticks.{at-rest, talked, quiet-falls, release-left, release-falls, runs-out}
+use Rattle.timers.proofs.timers.falls.Statement.{statement}
+use Rattle.timers.proofs.timers.falls.Tie as tie
 
 is-held-requires : tie.Need-is-held-requires
 is-held-requires c κs = search needs

@@ -1,10 +1,10 @@
--- `lines::timers::ticked` meets its contract: by what the tick does to the timers.
+-- `timers::timers::ticked` meets its contract: by what the tick does to the timers.
 -- Assumes nothing.
 use borrow.Author.Needs.{needs}
 use mathlib.Core.Path.{refl, sym, _∙_}
-use Rattle.lines.proofs.Ticks.{tick-falling}
-use Rattle.lines.proofs.timers.ticked.Statement.{statement}
-use Rattle.lines.proofs.timers.ticked.Tie as tie
+use Rattle.timers.proofs.Ticks.{tick-falling}
+use Rattle.timers.proofs.timers.ticked.Statement.{statement}
+use Rattle.timers.proofs.timers.ticked.Tie as tie
 
 falls-requires : tie.Need-falls-requires
 falls-requires c κs = search needs

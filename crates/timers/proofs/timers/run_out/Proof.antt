@@ -1,10 +1,10 @@
--- `lines::timers::run_out` meets its contract: by whether the quiet timer runs.
+-- `timers::timers::run_out` meets its contract: by whether the quiet timer runs.
 -- Assumes nothing.
 use mathlib.Core.Path.{refl}
 use borrow.Author.Tests.{lt-ltb, le-ltb}
-use Rattle.lines.specs.Scripts.{runOut}
-use Rattle.lines.proofs.timers.run_out.Statement.{statement}
-use Rattle.lines.proofs.timers.run_out.Tie as tie
+use Rattle.timers.specs.Falls.{runOut}
+use Rattle.timers.proofs.timers.run_out.Statement.{statement}
+use Rattle.timers.proofs.timers.run_out.Tie as tie
 
 returns : tie.Need-returns
 unfolding runOut
