@@ -104,7 +104,7 @@ fn unread_request(code: u32, reading: Reading) -> Request
 fn read_request(telegram: &[u8], code: u32) -> Request
     ensures { λ r. ⌜ r ≡ requestIn code (readTelegram (now (telegram .entry))) ⌝ }
 {
-    let reading = telegram::read(telegram);
+    let reading = telegram_reader::read(telegram);
     let Reading::Telegram {
         code: seen,
         message,

@@ -13,8 +13,6 @@ use Rattle.telegram.specs.declared.message.Reading.{Reading}
 use Rattle.telegram.specs.declared.message.Reading.the-variants.{Telegram, Refused}
 use Rattle.telegram.specs.declared.message.Written.{Written}
 use Rattle.telegram.specs.declared.message.Written.the-variants.{Count, OutOfRange, NoRoom}
-use Rattle.telegram.specs.declared.reader.Header.{Header}
-use Rattle.telegram.specs.declared.reader.Header.the-variants.{Code, Bad}
 
 -- ---- the table
 
@@ -149,9 +147,6 @@ headerOk s =
     && eqb (getD s 1 0) 86
     && bodyOk (length4 ∷ code ∷ []) 0 0 (take 8 (drop 2 s))
     && eqb (nth (heading s) 0) (length s)
-
-abbrev pub headerOf : List ℕ → Header
-headerOf s = cond (headerOk s) (Code (nth (heading s) 1)) Bad
 
 -- 10: "body size or a field's range wrong"
 abbrev pub readRow : Row → ℕ → List ℕ → Reading

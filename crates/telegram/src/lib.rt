@@ -1,8 +1,16 @@
-// The telegrams of the command link: messages, read from bytes and written as bytes.
+// The telegrams of the command link: what they say, and each one's list of fields.
+mod lists;
 mod message;
-mod reader;
-mod writer;
 
+pub use lists::BASE_ARRIVAL;
+pub use lists::CALL;
+pub use lists::CALLER_NOTICE;
+pub use lists::CAPTURE_REPLY;
+pub use lists::CAPTURE_REQUEST;
+pub use lists::CAPTURE_STATE;
+pub use lists::NO_FIELDS;
+pub use lists::OPERATION_ANSWER;
+pub use lists::TIME_NOTICE;
 pub use message::BaseArrival;
 pub use message::Call;
 pub use message::CallerNotice;
@@ -15,14 +23,3 @@ pub use message::OperationAnswer;
 pub use message::Reading;
 pub use message::TimeNotice;
 pub use message::Written;
-pub use reader::read;
-pub use writer::put;
-pub use writer::put_base_arrival;
-pub use writer::put_call;
-pub use writer::put_caller_notice;
-pub use writer::put_capture_reply;
-pub use writer::put_capture_state;
-pub use writer::put_operation_request;
-pub use writer::put_time_request;
-pub use writer::size;
-pub use writer::write;

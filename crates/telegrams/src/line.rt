@@ -29,7 +29,7 @@ fn put_telegram(message: Message, code: u32, text: &mut [u8]) -> usize
     requires { ⌜ 64 ≤ length (now text) ⌝ }
     ensures { λ r. ⌜ r ≤ 64 ⌝ }
 {
-    let w = telegram::write(message, code, &mut text[2..]);
+    let w = telegram_writer::write(message, code, &mut text[2..]);
     match w {
         Written::Count(n) => {
             text[0] = b'0';
@@ -47,7 +47,7 @@ pub fn put_line(telegram: &[u8], text: &mut [u8]) -> usize
     requires { ⌜ 64 ≤ length (now text) ⌝ }
     ensures { λ r. ⌜ r ≤ 64 ⌝ }
 {
-    let r = telegram::read(telegram);
+    let r = telegram_reader::read(telegram);
     match r {
         Reading::Telegram { code, message } => put_telegram(message, code, text),
         Reading::Refused {

@@ -1,0 +1,89 @@
+-- `telegram_reader::reader::message_of` meets its contract: each arm makes the message of its row.
+-- Assumes nothing.
+use borrow.Author.Tests.{ne-eqb}
+use borrow.Author.Needs.{needs}
+use Rattle.telegram_reader.proofs.reader.message_of.Statement.{statement}
+use Rattle.telegram_reader.proofs.reader.message_of.Tie as tie
+
+time-notice-requires : tie.Need-time-notice-requires
+time-notice-requires c κs = search needs
+
+operation-answer-requires : tie.Need-operation-answer-requires
+operation-answer-requires c κs = search needs
+
+base-arrival-requires : tie.Need-base-arrival-requires
+base-arrival-requires c κs = search needs
+
+call-requires : tie.Need-call-requires
+call-requires c κs = search needs
+
+caller-notice-requires : tie.Need-caller-notice-requires
+caller-notice-requires c κs = search needs
+
+capture-request-requires : tie.Need-capture-request-requires
+capture-request-requires c κs = search needs
+
+capture-reply-requires : tie.Need-capture-reply-requires
+capture-reply-requires c κs = search needs
+
+capture-state-requires : tie.Need-capture-state-requires
+capture-state-requires c κs = search needs
+
+returns : tie.Need-returns
+returns c = rw (c .before .match .keys1) (c .time-notice .ensures)
+
+returns-2 : tie.Need-returns-2
+returns-2 c = rw (c .before .match .keys2) (c .operation-answer .ensures)
+
+returns-3 : tie.Need-returns-3
+returns-3 c = rw (c .match .keys3)
+
+returns-4 : tie.Need-returns-4
+returns-4 c = rw (c .before .match .keys4) (c .base-arrival .ensures)
+
+returns-5 : tie.Need-returns-5
+returns-5 c = rw (c .match .keys5)
+
+returns-6 : tie.Need-returns-6
+returns-6 c = rw (c .before .match .keys6) (c .call .ensures)
+
+returns-7 : tie.Need-returns-7
+returns-7 c = rw (c .before .match .keys7) (c .caller-notice .ensures)
+
+returns-8 : tie.Need-returns-8
+returns-8 c = rw (c .before .match .keys8) (c .capture-request .ensures)
+
+returns-9 : tie.Need-returns-9
+returns-9 c = rw (c .before .match .keys9) (c .capture-reply .ensures)
+
+returns-10 : tie.Need-returns-10
+returns-10 c = rw (c .before .match .keys10) (c .capture-state .ensures)
+
+returns-11 : tie.Need-returns-11
+returns-11 c =
+    let r = c .match .rest in
+    simp (ne-eqb _ _ (r .0 .0 .0 .0 .0 .0 .0 .0 .0 .1), ne-eqb _ _ (r .0 .0 .0 .0 .0 .0 .0 .0 .1), ne-eqb _ _ (r .0 .0 .0 .0 .0 .0 .0 .1), ne-eqb _ _ (r .0 .0 .0 .0 .0 .0 .1), ne-eqb _ _ (r .0 .0 .0 .0 .0 .1), ne-eqb _ _ (r .0 .0 .0 .0 .1), ne-eqb _ _ (r .0 .0 .0 .1), ne-eqb _ _ (r .0 .0 .1), ne-eqb _ _ (r .0 .1), ne-eqb _ _ (r .1))
+
+pub message-of-spec : {M : Type 1} → statement M
+message-of-spec =
+    tie.close
+    (tie.spec
+    time-notice-requires
+    operation-answer-requires
+    base-arrival-requires
+    call-requires
+    caller-notice-requires
+    capture-request-requires
+    capture-reply-requires
+    capture-state-requires
+    returns
+    returns-2
+    returns-3
+    returns-4
+    returns-5
+    returns-6
+    returns-7
+    returns-8
+    returns-9
+    returns-10
+    returns-11)

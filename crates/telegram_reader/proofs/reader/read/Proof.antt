@@ -1,0 +1,101 @@
+-- `telegram_reader::reader::read` meets its contract: what the header, the identifier and the body read as, put together.
+-- Assumes nothing.
+use Prim.Native.Nat.{_≤_}
+use mathlib.Core.Bool.{false}
+use mathlib.Core.Path.{_≡_, sym, _∙_}
+use native.Mathlib.Omega.{arith}
+use lib.ListN.{length, take, drop, length-drop}
+use lib.Seq.{length-take-le}
+use Rattle.fields.specs.Digits.{allDigits}
+use Rattle.fields.proofs.DigitLaws.{value-found, malformed-found}
+use Rattle.telegram.specs.Telegram.{readTelegram}
+use Rattle.telegram.proofs.TelegramLaws.{part-to-end}
+use Rattle.telegram_reader.proofs.HeaderLaws.{header-found, header-none, header-long}
+use borrow.Author.Needs.{needs}
+use Rattle.telegram_reader.proofs.reader.read.Statement.{statement}
+use Rattle.telegram_reader.proofs.reader.read.Tie as tie
+
+read-header-requires : tie.Need-read-header-requires
+read-header-requires c κs = search needs
+
+enum-known-h : tie.Need-enum-known-h
+enum-known-h c = search needs
+
+enum-told : tie.Need-enum-told
+enum-told c = search needs
+
+returns : tie.Need-returns
+unfolding readTelegram
+returns c = rw (header-none _ (sym (c .before .before .read-header .ensures) ∙ c .enum-told .given .1))
+
+sub-read-digits : tie.Need-sub-read-digits
+sub-read-digits c = search needs
+
+part-read-digits-start : tie.Need-part-read-digits-start
+part-read-digits-start c = search needs
+
+part-read-digits-end : tie.Need-part-read-digits-end
+part-read-digits-end c = header-long _ _ (sym (c .before .before .before .read-header .ensures) ∙ c .before .h .given .1)
+
+read-digits-requires : tie.Need-read-digits-requires
+read-digits-requires c κs = search needs
+
+enum-known-d : tie.Need-enum-known-d
+enum-known-d c = search needs
+
+enum-told-2 : tie.Need-enum-told-2
+enum-told-2 c = search needs
+
+returns-2 : tie.Need-returns-2
+unfolding readTelegram
+returns-2 c =
+    let s = c .before .before .before .before .before .before .before .before .before .args .s .now in
+    let e = sym (c .before .before .before .before .before .before .before .read-header .ensures) ∙ c .before .before .before .before .before .h .given .1 in
+    let h = header-found s _ e in
+    let n : 16 ≤ length s = header-long s _ e in
+    let w : 6 ≤ length (drop 10 s) = simp length-drop (omega arith) in
+    let k : length (take 6 (drop 10 s)) ≤ 9 = rw (length-take-le 6 (drop 10 s) w) (omega arith) in
+    let d : allDigits (take 6 (drop 10 s)) ≡ false = malformed-found _ k (sym (c .before .before .read-digits .ensures) ∙ c .enum-told2 .given .1) in
+    rw (h .0, h .1, d)
+
+sub-read-identified : tie.Need-sub-read-identified
+sub-read-identified c = header-long _ _ (sym (c .before .before .before .before .before .before .before .before .read-header .ensures) ∙ c .before .before .before .before .before .before .h .given .1)
+
+part-read-identified-start : tie.Need-part-read-identified-start
+part-read-identified-start c = header-long _ _ (sym (c .before .before .before .before .before .before .before .before .read-header .ensures) ∙ c .before .before .before .before .before .before .h .given .1)
+
+part-read-identified-end : tie.Need-part-read-identified-end
+part-read-identified-end c = search needs
+
+read-identified-requires : tie.Need-read-identified-requires
+read-identified-requires c κs = search needs
+
+returns-3 : tie.Need-returns-3
+unfolding readTelegram
+returns-3 c =
+    let s = c .before .before .before .before .before .before .before .before .before .before .before .before .args .s .now in
+    let h = header-found s _ (sym (c .before .before .before .before .before .before .before .before .before .before .read-header .ensures) ∙ c .before .before .before .before .before .before .before .before .h .given .1) in
+    let d = value-found (take 6 (drop 10 s)) _ (sym (c .before .before .before .before .before .read-digits .ensures) ∙ c .before .before .before .d .given .1) in
+    let e = rw (part-to-end s 16) at (c .read-identified .ensures) in
+    rw (h .0, h .1, d .0, d .1) e
+
+pub read-spec : {M : Type 1} → statement M
+read-spec =
+    tie.close
+    (tie.spec
+    read-header-requires
+    enum-known-h
+    enum-told
+    returns
+    sub-read-digits
+    part-read-digits-start
+    part-read-digits-end
+    read-digits-requires
+    enum-known-d
+    enum-told-2
+    returns-2
+    sub-read-identified
+    part-read-identified-start
+    part-read-identified-end
+    read-identified-requires
+    returns-3)

@@ -1,0 +1,141 @@
+-- `telegram_reader::reader::read_body` meets its contract: each arm reads the fields of its row.
+-- Assumes nothing.
+use borrow.Author.Tests.{ne-eqb}
+use borrow.Author.Needs.{needs}
+use Rattle.telegram_reader.proofs.reader.read_body.Statement.{statement}
+use Rattle.telegram_reader.proofs.reader.read_body.Tie as tie
+
+slice-aggregate-read-fields : tie.Need-slice-aggregate-read-fields
+slice-aggregate-read-fields c = search needs
+
+read-fields-requires : tie.Need-read-fields-requires
+read-fields-requires c κs = search needs
+
+slice-aggregate-read-fields-2 : tie.Need-slice-aggregate-read-fields-2
+slice-aggregate-read-fields-2 c = search needs
+
+read-fields-requires-2 : tie.Need-read-fields-requires-2
+read-fields-requires-2 c κs = search needs
+
+slice-aggregate-read-fields-3 : tie.Need-slice-aggregate-read-fields-3
+slice-aggregate-read-fields-3 c = search needs
+
+read-fields-requires-3 : tie.Need-read-fields-requires-3
+read-fields-requires-3 c κs = search needs
+
+slice-aggregate-read-fields-4 : tie.Need-slice-aggregate-read-fields-4
+slice-aggregate-read-fields-4 c = search needs
+
+read-fields-requires-4 : tie.Need-read-fields-requires-4
+read-fields-requires-4 c κs = search needs
+
+slice-aggregate-read-fields-5 : tie.Need-slice-aggregate-read-fields-5
+slice-aggregate-read-fields-5 c = search needs
+
+read-fields-requires-5 : tie.Need-read-fields-requires-5
+read-fields-requires-5 c κs = search needs
+
+slice-aggregate-read-fields-6 : tie.Need-slice-aggregate-read-fields-6
+slice-aggregate-read-fields-6 c = search needs
+
+read-fields-requires-6 : tie.Need-read-fields-requires-6
+read-fields-requires-6 c κs = search needs
+
+slice-aggregate-read-fields-7 : tie.Need-slice-aggregate-read-fields-7
+slice-aggregate-read-fields-7 c = search needs
+
+read-fields-requires-7 : tie.Need-read-fields-requires-7
+read-fields-requires-7 c κs = search needs
+
+slice-aggregate-read-fields-8 : tie.Need-slice-aggregate-read-fields-8
+slice-aggregate-read-fields-8 c = search needs
+
+read-fields-requires-8 : tie.Need-read-fields-requires-8
+read-fields-requires-8 c κs = search needs
+
+slice-aggregate-read-fields-9 : tie.Need-slice-aggregate-read-fields-9
+slice-aggregate-read-fields-9 c = search needs
+
+read-fields-requires-9 : tie.Need-read-fields-requires-9
+read-fields-requires-9 c κs = search needs
+
+slice-aggregate-read-fields-10 : tie.Need-slice-aggregate-read-fields-10
+slice-aggregate-read-fields-10 c = search needs
+
+read-fields-requires-10 : tie.Need-read-fields-requires-10
+read-fields-requires-10 c κs = search needs
+
+no-fields-requires : tie.Need-no-fields-requires
+no-fields-requires c κs = search needs
+
+returns : tie.Need-returns
+returns c = rw (c .before .before .match .keys1) (c .read-fields .ensures)
+
+returns-2 : tie.Need-returns-2
+returns-2 c = rw (c .before .before .match .keys2) (c .read-fields2 .ensures)
+
+returns-3 : tie.Need-returns-3
+returns-3 c = rw (c .before .before .match .keys3) (c .read-fields3 .ensures)
+
+returns-4 : tie.Need-returns-4
+returns-4 c = rw (c .before .before .match .keys4) (c .read-fields4 .ensures)
+
+returns-5 : tie.Need-returns-5
+returns-5 c = rw (c .before .before .match .keys5) (c .read-fields5 .ensures)
+
+returns-6 : tie.Need-returns-6
+returns-6 c = rw (c .before .before .match .keys6) (c .read-fields6 .ensures)
+
+returns-7 : tie.Need-returns-7
+returns-7 c = rw (c .before .before .match .keys7) (c .read-fields7 .ensures)
+
+returns-8 : tie.Need-returns-8
+returns-8 c = rw (c .before .before .match .keys8) (c .read-fields8 .ensures)
+
+returns-9 : tie.Need-returns-9
+returns-9 c = rw (c .before .before .match .keys9) (c .read-fields9 .ensures)
+
+returns-10 : tie.Need-returns-10
+returns-10 c = rw (c .before .before .match .keys10) (c .read-fields10 .ensures)
+
+returns-11 : tie.Need-returns-11
+returns-11 c =
+    let r = c .before .match .rest in
+    simp (ne-eqb _ _ (r .0 .0 .0 .0 .0 .0 .0 .0 .0 .1), ne-eqb _ _ (r .0 .0 .0 .0 .0 .0 .0 .0 .1), ne-eqb _ _ (r .0 .0 .0 .0 .0 .0 .0 .1), ne-eqb _ _ (r .0 .0 .0 .0 .0 .0 .1), ne-eqb _ _ (r .0 .0 .0 .0 .0 .1), ne-eqb _ _ (r .0 .0 .0 .0 .1), ne-eqb _ _ (r .0 .0 .0 .1), ne-eqb _ _ (r .0 .0 .1), ne-eqb _ _ (r .0 .1), ne-eqb _ _ (r .1)) (c .no-fields .ensures)
+
+pub read-body-spec : {M : Type 1} → statement M
+read-body-spec =
+    tie.close
+    (tie.spec
+    slice-aggregate-read-fields
+    read-fields-requires
+    slice-aggregate-read-fields-2
+    read-fields-requires-2
+    slice-aggregate-read-fields-3
+    read-fields-requires-3
+    slice-aggregate-read-fields-4
+    read-fields-requires-4
+    slice-aggregate-read-fields-5
+    read-fields-requires-5
+    slice-aggregate-read-fields-6
+    read-fields-requires-6
+    slice-aggregate-read-fields-7
+    read-fields-requires-7
+    slice-aggregate-read-fields-8
+    read-fields-requires-8
+    slice-aggregate-read-fields-9
+    read-fields-requires-9
+    slice-aggregate-read-fields-10
+    read-fields-requires-10
+    no-fields-requires
+    returns
+    returns-2
+    returns-3
+    returns-4
+    returns-5
+    returns-6
+    returns-7
+    returns-8
+    returns-9
+    returns-10
+    returns-11)

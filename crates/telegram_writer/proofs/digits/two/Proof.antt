@@ -1,0 +1,35 @@
+-- `telegram_writer::digits::two` meets its contract: `digitsOf`, written out at this width.
+-- Assumes nothing.
+use Prim.Native.Nat.{_+_, suc}
+use mathlib.Core.Path.{_≡_}
+use native.Mathlib.Omega.{arith}
+use Rattle.fields.specs.Digits.{digitsOf}
+use borrow.Author.Needs.{needs}
+use Rattle.telegram_writer.proofs.digits.two.Statement.{statement}
+use Rattle.telegram_writer.proofs.digits.two.Tie as tie
+
+digit-requires : tie.Need-digit-requires
+digit-requires c κs = search needs
+
+array-write-t : tie.Need-array-write-t
+array-write-t c = search needs
+
+digit-requires-2 : tie.Need-digit-requires-2
+digit-requires-2 c κs = search needs
+
+add-t : tie.Need-add-t
+add-t c = search needs
+
+array-write-t-2 : tie.Need-array-write-t-2
+array-write-t-2 c = search needs
+
+returns : tie.Need-returns
+unfolding digitsOf
+returns c =
+    let p1 : c .before .before .args .at + 1 ≡ suc (c .before .before .args .at) = omega arith in
+    rw (c .before .digit .ensures, c .digit2 .ensures, p1)
+
+pub two-spec : {M : Type 1} → statement M
+two-spec =
+    tie.close
+    (tie.spec digit-requires array-write-t digit-requires-2 add-t array-write-t-2 returns)

@@ -1,0 +1,125 @@
+-- `telegram_writer::writer::in_range` meets its contract: each arm answers for its row.
+-- Assumes nothing.
+use Rattle.fields.specs.Fields.{allIn}
+use borrow.Author.Needs.{needs}
+use Rattle.telegram_writer.proofs.writer.in_range.Statement.{statement}
+use Rattle.telegram_writer.proofs.writer.in_range.Tie as tie
+
+enum-known-message : tie.Need-enum-known-message
+enum-known-message c = search needs
+
+time-notice-in-range-requires : tie.Need-time-notice-in-range-requires
+time-notice-in-range-requires c κs = search needs
+
+enum-known-message-2 : tie.Need-enum-known-message-2
+enum-known-message-2 c = search needs
+
+operation-answer-in-range-requires : tie.Need-operation-answer-in-range-requires
+operation-answer-in-range-requires c κs = search needs
+
+enum-told : tie.Need-enum-told
+enum-told c = search needs
+
+enum-known-message-3 : tie.Need-enum-known-message-3
+enum-known-message-3 c = search needs
+
+base-arrival-in-range-requires : tie.Need-base-arrival-in-range-requires
+base-arrival-in-range-requires c κs = search needs
+
+enum-told-2 : tie.Need-enum-told-2
+enum-told-2 c = search needs
+
+enum-known-message-4 : tie.Need-enum-known-message-4
+enum-known-message-4 c = search needs
+
+call-in-range-requires : tie.Need-call-in-range-requires
+call-in-range-requires c κs = search needs
+
+enum-known-message-5 : tie.Need-enum-known-message-5
+enum-known-message-5 c = search needs
+
+caller-notice-in-range-requires : tie.Need-caller-notice-in-range-requires
+caller-notice-in-range-requires c κs = search needs
+
+enum-known-message-6 : tie.Need-enum-known-message-6
+enum-known-message-6 c = search needs
+
+capture-request-in-range-requires : tie.Need-capture-request-in-range-requires
+capture-request-in-range-requires c κs = search needs
+
+enum-known-message-7 : tie.Need-enum-known-message-7
+enum-known-message-7 c = search needs
+
+capture-reply-in-range-requires : tie.Need-capture-reply-in-range-requires
+capture-reply-in-range-requires c κs = search needs
+
+enum-known-message-8 : tie.Need-enum-known-message-8
+enum-known-message-8 c = search needs
+
+capture-state-in-range-requires : tie.Need-capture-state-in-range-requires
+capture-state-in-range-requires c κs = search needs
+
+returns : tie.Need-returns
+returns c = rw (c .before .before .message .given .1) (c .time-notice-in-range .ensures)
+
+returns-2 : tie.Need-returns-2
+returns-2 c = rw (c .before .before .message2 .given .1) (c .operation-answer-in-range .ensures)
+
+returns-3 : tie.Need-returns-3
+unfolding allIn
+returns-3 c = rw (c .enum-told .given .1)
+
+returns-4 : tie.Need-returns-4
+returns-4 c = rw (c .before .before .message3 .given .1) (c .base-arrival-in-range .ensures)
+
+returns-5 : tie.Need-returns-5
+unfolding allIn
+returns-5 c = rw (c .enum-told2 .given .1)
+
+returns-6 : tie.Need-returns-6
+returns-6 c = rw (c .before .before .message4 .given .1) (c .call-in-range .ensures)
+
+returns-7 : tie.Need-returns-7
+returns-7 c = rw (c .before .before .message5 .given .1) (c .caller-notice-in-range .ensures)
+
+returns-8 : tie.Need-returns-8
+returns-8 c = rw (c .before .before .message6 .given .1) (c .capture-request-in-range .ensures)
+
+returns-9 : tie.Need-returns-9
+returns-9 c = rw (c .before .before .message7 .given .1) (c .capture-reply-in-range .ensures)
+
+returns-10 : tie.Need-returns-10
+returns-10 c = rw (c .before .before .message8 .given .1) (c .capture-state-in-range .ensures)
+
+pub in-range-spec : {M : Type 1} → statement M
+in-range-spec =
+    tie.close
+    (tie.spec
+    enum-known-message
+    time-notice-in-range-requires
+    enum-known-message-2
+    operation-answer-in-range-requires
+    enum-told
+    enum-known-message-3
+    base-arrival-in-range-requires
+    enum-told-2
+    enum-known-message-4
+    call-in-range-requires
+    enum-known-message-5
+    caller-notice-in-range-requires
+    enum-known-message-6
+    capture-request-in-range-requires
+    enum-known-message-7
+    capture-reply-in-range-requires
+    enum-known-message-8
+    capture-state-in-range-requires
+    returns
+    returns-2
+    returns-3
+    returns-4
+    returns-5
+    returns-6
+    returns-7
+    returns-8
+    returns-9
+    returns-10)

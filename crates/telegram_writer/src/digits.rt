@@ -1,0 +1,90 @@
+// Digits, put into a telegram's bytes.
+ghost use mathlib.Core.Path.{_≡_};
+ghost use mathlib.Core.List.{[], _++_};
+ghost use Prim.Native.Nat.{_+_, _%_, _≤_};
+ghost use lib.ListN.{length, take, drop, replicate};
+ghost use lib.Seq.{sets};
+ghost use Rattle.fields.specs.Digits.{digitsOf};
+ghost use Rattle.telegram.specs.Telegram.{headed};
+
+// The last digit of v.
+fn digit(v: u32) -> u8
+    ensures { λ r. ⌜ r ≡ 48 + v % 10 ⌝ }
+{
+    48 + (v % 10) as u8
+}
+
+// Each of these puts the digits of v, at the width that its name says, into a telegram from `at` on. The longest
+// telegram has 46 bytes.
+pub fn one(mut t: [u8; 46], at: usize, v: u32) -> [u8; 46]
+    requires { ⌜ at + 1 ≤ 46 ⌝ }
+    ensures { λ r. ⌜ r ≡ sets t at (digitsOf 1 v) ⌝ }
+{
+    t[at] = digit(v);
+    t
+}
+
+pub fn two(mut t: [u8; 46], at: usize, v: u32) -> [u8; 46]
+    requires { ⌜ at + 2 ≤ 46 ⌝ }
+    ensures { λ r. ⌜ r ≡ sets t at (digitsOf 2 v) ⌝ }
+{
+    t[at] = digit(v / 10);
+    t[at + 1] = digit(v);
+    t
+}
+
+pub fn three(mut t: [u8; 46], at: usize, v: u32) -> [u8; 46]
+    requires { ⌜ at + 3 ≤ 46 ⌝ }
+    ensures { λ r. ⌜ r ≡ sets t at (digitsOf 3 v) ⌝ }
+{
+    t[at] = digit(v / 10 / 10);
+    t[at + 1] = digit(v / 10);
+    t[at + 2] = digit(v);
+    t
+}
+
+pub fn four(mut t: [u8; 46], at: usize, v: u32) -> [u8; 46]
+    requires { ⌜ at + 4 ≤ 46 ⌝ }
+    ensures { λ r. ⌜ r ≡ sets t at (digitsOf 4 v) ⌝ }
+{
+    t[at] = digit(v / 10 / 10 / 10);
+    t[at + 1] = digit(v / 10 / 10);
+    t[at + 2] = digit(v / 10);
+    t[at + 3] = digit(v);
+    t
+}
+
+pub fn eight(t: [u8; 46], at: usize, v: u32) -> [u8; 46]
+    requires { ⌜ at + 8 ≤ 46 ⌝ }
+    ensures { λ r. ⌜ r ≡ sets t at (digitsOf 8 v) ⌝ }
+{
+    let high = four(t, at, v / 10 / 10 / 10 / 10);
+    four(high, at + 4, v)
+}
+
+// "DV", the length of the whole telegram, the organisation code and the identifier.
+pub fn header(size: u32, code: u32, identifier: u32) -> [u8; 46]
+    ensures { λ r. ⌜ r ≡ sets (replicate 46 0) 0 (headed size code identifier []) ⌝ }
+{
+    let mut t = [0u8; 46];
+    t[0] = b'D';
+    t[1] = b'V';
+    let t = four(t, 2, size);
+    let t = four(t, 6, code);
+    let t = three(t, 10, identifier / 10 / 10 / 10);
+    three(t, 13, identifier)
+}
+
+// Copies the first n bytes of a telegram to the front of a buffer, and gives n.
+pub fn copy(bytes: [u8; 46], n: usize, buffer: &mut [u8]) -> usize
+    requires { ⌜ (n ≤ 46) × (n ≤ length (now buffer)) ⌝ }
+    ensures { λ r. ⌜ r ≡ n ⌝ }
+    ensures { λ r. ⌜ now (buffer .exit) ≡ take n bytes ++ drop n (now (buffer .entry)) ⌝ }
+{
+    let mut i = 0;
+    while i < n {
+        buffer[i] = bytes[i];
+        i += 1;
+    }
+    n
+}
