@@ -10,9 +10,11 @@ use lib.Dec.{eqb, leb, ltb}
 use lib.ListN.{length, getD, take, drop, set}
 use lib.Seq.{take-all}
 use borrow.Author.Tests.{le-leb, eq-eqb, ne-eqb}
-use Rattle.fields.specs.Digits.{allDigits, valueOf, digitsIn}
+use Rattle.fields.specs.Digits.{digitsIn}
+use Rattle.fields.specs.declared.digits.Digits.{Digits}
 use Rattle.fields.specs.declared.digits.Digits.the-variants.{Value, Malformed}
-use Rattle.telegram.specs.Telegram.{num, rowOf, valuesOf, nth, readTelegram}
+use Rattle.telegram.specs.declared.message.Number.{Number}
+use Rattle.telegram.specs.Telegram.{rowOf, valuesOf, nth, readTelegram}
 use Rattle.telegram.specs.declared.message.Reading.{Reading}
 use Rattle.telegram.specs.declared.message.Reading.the-variants.{Telegram, Refused}
 use Rattle.channel.specs.State.{isIn, only, holderPlace}
@@ -29,11 +31,11 @@ use Rattle.channel.specs.declared.state.Send.{Send}
 use Rattle.line_rules.proofs.Veil.{none-in, veil, hide, hide-twice, hideNotice, hideSend, hideSends, hideStep, present-hide, happens-hide, number-hidden}
 use Rattle.set_rules.specs.State.{newSet, noChannel, deskAt, channelsOf, placeOf, placeIn, channelAt, hasChannel, listenersOf, withChannels}
 use Rattle.set_rules.specs.Entries.{readEntry, asks, bad, telegramIn, planIn}
-use Rattle.set_rules.specs.Refusals.{firstOf, refusalOf, table}
+use Rattle.set_rules.specs.Refusals.{firstOf, refusalOf, isCaller, table}
 use Rattle.set_rules.specs.Records.{Delivery, delivered, recordSize, recordsOf, spaceOf}
 use Rattle.set_rules.specs.SetRules.{Effect, effect, telegramTo, timeTaken, answerTaken, contextOf, onChannel, byHolder, happensIn, nextsOf, sendsOf, onTick, onHandover, onPlan, onMessage, onReading, numberIn, accepted}
 use Rattle.set_rules.specs.Feeds.{Outcome, Item, refuse, emit, stepOf, stepBy, ofDesk, received, Seen, seenOf, views}
-use Rattle.set_rules.specs.Promises.{mobileEntry, WellFormed, OtherHolds, Alike, same, numbers, Related, none, more, Isolated}
+use Rattle.set_rules.specs.Promises.{mobileEntry, Exchanged, OtherHolds, Alike, same, numbers, Related, none, more, Isolated}
 use Rattle.set_rules.specs.declared.state.Desk.{Desk}
 use Rattle.set_rules.specs.declared.state.LineSet.{LineSet}
 use Rattle.set_rules.specs.declared.state.Entry.{Entry}
@@ -365,70 +367,73 @@ module _ (B : ℕ) where
   -- ---- mobile ons that differ in their numbers
 
   -- what a mobile on asks for, by whether its base is one
-  abbrev askedIf : Bool → ℕ → ℕ → List ℕ → Entry
-  askedIf t ch b n = cond t (asks 4 0 ch 0 b (Value (valueOf n))) (bad 3)
+  abbrev askedIf : Bool → ℕ → ℕ → Digits → Entry
+  askedIf t ch b d = cond t (asks 4 0 ch 0 b d) (bad 3)
 
-  read-mobile : (ch b : ℕ) (n : List ℕ) → WellFormed n → readEntry (mobileEntry ch b n) ≡ askedIf (leb b 29) ch b n
+  read-mobile : (ch b : ℕ) (n : List ℕ) → length n ≡ 8 → readEntry (mobileEntry ch b n) ≡ askedIf (leb b 29) ch b (digitsIn n)
   unfolding readEntry
-  read-mobile ch b n w =
-      let t : take 8 n ≡ n = take-all 8 n (omega (arith, w .eight)) in
-      simp (t, w .eight, w .digits) refl
+  read-mobile ch b n l =
+      let t : take 8 n ≡ n = take-all 8 n (omega (arith, l)) in
+      simp (t, l) refl
 
-  refusal-number : (t : Bool) (s : LineSet) (e e′ : List ℕ) (ch b : ℕ) (n n′ : List ℕ) → WellFormed n → WellFormed n′
-      → refusalOf s e (askedIf t ch b n) ≡ refusalOf s e′ (askedIf t ch b n′)
+  refusal-number : (t : Bool) (s : LineSet) (e e′ : List ℕ) (ch b : ℕ) (d d′ : Digits) → isCaller d ≡ isCaller d′
+      → refusalOf s e (askedIf t ch b d) ≡ refusalOf s e′ (askedIf t ch b d′)
   unfolding refusalOf firstOf
-  refusal-number true s e e′ ch b n n′ w w′ = simp (w .caller, w′ .caller) refl
-  refusal-number false s e e′ ch b n n′ w w′ = refl
+  refusal-number true s e e′ ch b (Value v) (Value v′) h = simp h refl
+  refusal-number true s e e′ ch b (Value v) Malformed h = simp h refl
+  refusal-number true s e e′ ch b Malformed (Value v′) h = simp (sym h) refl
+  refusal-number true s e e′ ch b Malformed Malformed h = refl
+  refusal-number false s e e′ ch b d d′ h = refl
 
   -- a mobile on under another desk shows B the same whatever its number
-  number-shown : (s : LineSet) (ch b : ℕ) (v v′ : ℕ) → OtherHolds B (channelAt s ch .holder)
-      → shown (byHolder s ch (MobileOn b (num v))) ≡ shown (byHolder s ch (MobileOn b (num v′)))
+  number-shown : (s : LineSet) (ch b : ℕ) (n n′ : Number) → OtherHolds B (channelAt s ch .holder)
+      → shown (byHolder s ch (MobileOn b n)) ≡ shown (byHolder s ch (MobileOn b n′))
   unfolding onChannel happens
-  number-shown s ch b v v′ o =
+  number-shown s ch b n n′ o =
       let c = channelAt s ch in
       let x = contextOf s c (holderPlace (c .holder)) in
-      place-shown s (placeIn s ch) c (happens (MobileOn b (num v)) x c) (happens (MobileOn b (num v′)) x c)
-      (number-hidden B x b (num v) (num v′) c (unheard (c .holder) o))
+      place-shown s (placeIn s ch) c (happens (MobileOn b n) x c) (happens (MobileOn b n′) x c)
+      (number-hidden B x b n n′ c (unheard (c .holder) o))
     where
       unheard : (h : Holder) → OtherHolds B h → isIn B (mobileRecipients h (listenersOf s (channelAt s ch))) ≡ false
       unheard Nobody o = absurd o
       unheard (Held d) o = only-other B d o
 
-  accepted-number : (s : LineSet) (e e′ : List ℕ) (ch b : ℕ) (v v′ : ℕ) → OtherHolds B (channelAt s ch .holder)
-      → shown (accepted s e (asks 4 0 ch 0 b (Value v))) ≡ shown (accepted s e′ (asks 4 0 ch 0 b (Value v′)))
+  accepted-number : (s : LineSet) (e e′ : List ℕ) (ch b : ℕ) (d d′ : Digits) → OtherHolds B (channelAt s ch .holder)
+      → shown (accepted s e (asks 4 0 ch 0 b d)) ≡ shown (accepted s e′ (asks 4 0 ch 0 b d′))
   unfolding accepted
-  accepted-number s e e′ ch b v v′ o = number-shown s ch b v v′ o
+  accepted-number s e e′ ch b d d′ o = number-shown s ch b (numberIn d) (numberIn d′) o
 
   abbrev viewOf : LineSet → List ℕ → Entry → ℕ → View
   viewOf s e x room = viewBy (refusalOf s e x) (shown (accepted s e x)) (hideSet s) room
 
-  asked-number : (t : Bool) (s : LineSet) (e e′ : List ℕ) (ch b : ℕ) (n n′ : List ℕ) (room : ℕ) → WellFormed n → WellFormed n′
-      → OtherHolds B (channelAt s ch .holder) → viewOf s e (askedIf t ch b n) room ≡ viewOf s e′ (askedIf t ch b n′) room
+  asked-number : (t : Bool) (s : LineSet) (e e′ : List ℕ) (ch b : ℕ) (d d′ : Digits) (room : ℕ) → isCaller d ≡ isCaller d′
+      → OtherHolds B (channelAt s ch .holder) → viewOf s e (askedIf t ch b d) room ≡ viewOf s e′ (askedIf t ch b d′) room
   unfolding refusalOf
-  asked-number true s e e′ ch b n n′ room w w′ o =
-      ap (λ (k : ℕ). viewBy k (shown (accepted s e (askedIf true ch b n))) (hideSet s) room) (refusal-number true s e e′ ch b n n′ w w′)
-      ∙ ap (λ (f : Shown). viewBy (refusalOf s e′ (askedIf true ch b n′)) f (hideSet s) room) (accepted-number s e e′ ch b (valueOf n) (valueOf n′) o)
-  asked-number false s e e′ ch b n n′ room w w′ o = refl
+  asked-number true s e e′ ch b d d′ room h o =
+      ap (λ (k : ℕ). viewBy k (shown (accepted s e (askedIf true ch b d))) (hideSet s) room) (refusal-number true s e e′ ch b d d′ h)
+      ∙ ap (λ (f : Shown). viewBy (refusalOf s e′ (askedIf true ch b d′)) f (hideSet s) room) (accepted-number s e e′ ch b d d′ o)
+  asked-number false s e e′ ch b d d′ room h o = refl
 
-  view-mobile : (s : LineSet) (ch b : ℕ) (n : List ℕ) (room : ℕ) → WellFormed n
-      → view s (mobileEntry ch b n) room ≡ viewOf s (mobileEntry ch b n) (askedIf (leb b 29) ch b n) room
-  view-mobile s ch b n room w =
-      view-is s (mobileEntry ch b n) room ∙ ap (λ (x : Entry). viewOf s (mobileEntry ch b n) x room) (read-mobile ch b n w)
+  view-mobile : (s : LineSet) (ch b : ℕ) (n : List ℕ) (room : ℕ) → length n ≡ 8
+      → view s (mobileEntry ch b n) room ≡ viewOf s (mobileEntry ch b n) (askedIf (leb b 29) ch b (digitsIn n)) room
+  view-mobile s ch b n room l =
+      view-is s (mobileEntry ch b n) room ∙ ap (λ (x : Entry). viewOf s (mobileEntry ch b n) x room) (read-mobile ch b n l)
 
-  view-number : (s : LineSet) (ch b : ℕ) (n n′ : List ℕ) (room : ℕ) → WellFormed n → WellFormed n′ → OtherHolds B (channelAt s ch .holder)
+  view-number : (s : LineSet) (ch b : ℕ) (n n′ : List ℕ) (room : ℕ) → Exchanged n n′ → OtherHolds B (channelAt s ch .holder)
       → view s (mobileEntry ch b n) room ≡ view s (mobileEntry ch b n′) room
-  view-number s ch b n n′ room w w′ o =
-      view-mobile s ch b n room w
-      ∙ asked-number (leb b 29) s (mobileEntry ch b n) (mobileEntry ch b n′) ch b n n′ room w w′ o
-      ∙ sym (view-mobile s ch b n′ room w′)
+  view-number s ch b n n′ room w o =
+      view-mobile s ch b n room (w .eight)
+      ∙ asked-number (leb b 29) s (mobileEntry ch b n) (mobileEntry ch b n′) ch b (digitsIn n) (digitsIn n′) room (w .callers) o
+      ∙ sym (view-mobile s ch b n′ room (w .eight′))
 
   -- ---- whole feeds
 
   view-alike : (s s′ : LineSet) → hideSet s ≡ hideSet s′ → (e e′ : List ℕ) (room : ℕ) → Alike B s e e′ → view s e room ≡ view s′ e′ room
   view-alike s s′ h e e′ room (same p) = view-same s s′ h e room ∙ ap (λ (l : List ℕ). view s′ l room) p
-  view-alike s s′ h e e′ room (numbers ch b n n′ p p′ w w′ o) =
+  view-alike s s′ h e e′ room (numbers ch b n n′ p p′ w o) =
       ap (λ (l : List ℕ). view s l room) p
-      ∙ view-number s ch b n n′ room w w′ o
+      ∙ view-number s ch b n n′ room w o
       ∙ view-same s s′ h (mobileEntry ch b n′) room
       ∙ ap (λ (l : List ℕ). view s′ l room) (sym p′)
 

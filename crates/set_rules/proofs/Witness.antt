@@ -19,15 +19,11 @@ use Rattle.set_rules.specs.Refusals.{firstOf, refusalOf}
 use Rattle.set_rules.specs.Records.{delivered, toEach, recordsOf, spaceOf}
 use Rattle.set_rules.specs.SetRules.{onChannel, accepted}
 use Rattle.set_rules.specs.Feeds.{Item, stepOf, ofDesk, views}
-use Rattle.set_rules.specs.Promises.{Speaks, same, numbers, none, more, item, WellFormed}
+use Rattle.set_rules.specs.Promises.{Speaks, same, numbers, none, more, item, Exchanged}
 
-formed : WellFormed (digitsOf 8 990007)
+exchanged : Exchanged (digitsOf 8 990007) (digitsOf 8 990008)
 unfolding digitsOf allDigits valueFrom
-formed = record { eight = refl; digits = refl; caller = refl }
-
-formed-too : WellFormed (digitsOf 8 990008)
-unfolding digitsOf allDigits valueFrom
-formed-too = record { eight = refl; digits = refl; caller = refl }
+exchanged = record { eight = refl; eight′ = refl; callers = refl }
 
 other : _≡_ {A = ℕ} 0 1 → ⊥
 other p = omega arith
@@ -46,7 +42,7 @@ witness = record {
       (more (same refl) refl
       (more (same refl) refl
       (more (same refl) refl
-      (more (numbers 7 3 (digitsOf 8 990007) (digitsOf 8 990008) refl refl formed formed-too other) refl
+      (more (numbers 7 3 (digitsOf 8 990007) (digitsOf 8 990008) refl refl exchanged other) refl
       none))))));
   differ = λ p. let q : _≡_ {A = ℕ} 55 56 = ap last p in omega arith;
   receives = refl;

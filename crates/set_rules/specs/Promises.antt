@@ -3,9 +3,8 @@ use Prim.Native.Nat.{ℕ}
 use mathlib.Core.List.{List, [], _∷_, _++_, map}
 use mathlib.Core.Bool.{true, false}
 use mathlib.Core.Path.{_≡_}
-use lib.Dec.{eqb}
 use lib.ListN.{length, replicate, getD}
-use Rattle.fields.specs.Digits.{digitsOf, allDigits, valueOf}
+use Rattle.fields.specs.Digits.{digitsOf, digitsIn}
 use Rattle.telegram.specs.Telegram.{readTelegram, telegramOf}
 use Rattle.telegram.specs.Promises.{dv, Marked as ReaderMarked}
 use Rattle.telegram.specs.declared.message.Message.{Message}
@@ -18,6 +17,7 @@ use Rattle.channel.specs.declared.state.Holder.{Holder}
 use Rattle.channel.specs.declared.state.Holder.the-variants.{Nobody, Held}
 use Rattle.set_rules.specs.State.{newSet, noDesk, channelAt}
 use Rattle.set_rules.specs.Entries.{readEntry}
+use Rattle.set_rules.specs.Refusals.{isCaller}
 use Rattle.set_rules.specs.Records.{measuredBytes, Delivery, delivered, recordsOf}
 use Rattle.set_rules.specs.SetRules.{contextOf, accepted}
 use Rattle.set_rules.specs.Invariant.{SetOk, Timed, Each}
@@ -52,11 +52,12 @@ entryOf kind payload = measuredBytes (1 ∷ kind ∷ payload)
 abbrev pub mobileEntry : ℕ → ℕ → List ℕ → List ℕ
 mobileEntry ch b n = entryOf 4 (ch ∷ b ∷ n)
 
--- eight digits, not the none-number
-pub record WellFormed (n : List ℕ) : Type 0 where
+-- two numbers in a mobile on, eight bytes each, of which one can be a mobile's exactly when the other can: what is "not 8 digits
+-- or the none-number" is refused with 13, and the refusals are for B to see
+pub record Exchanged (n n′ : List ℕ) : Type 0 where
   pub eight : length n ≡ 8
-  pub digits : allDigits n ≡ true
-  pub caller : eqb (valueOf n) 0 ≡ false
+  pub eight′ : length n′ ≡ 8
+  pub callers : isCaller (digitsIn n) ≡ isCaller (digitsIn n′)
 
 -- "a desk other than B holds"
 abbrev pub OtherHolds : ℕ → Holder → Type 0
@@ -67,7 +68,7 @@ OtherHolds B (Held d) = d ≡ B → ⊥
 -- the number, whose channel a desk other than B holds".
 pub data Alike (B : ℕ) (s : LineSet) (e e′ : List ℕ) : Type 0 where
   same : e ≡ e′ → Alike B s e e′
-  numbers : (ch b : ℕ) (n n′ : List ℕ) → e ≡ mobileEntry ch b n → e′ ≡ mobileEntry ch b n′ → WellFormed n → WellFormed n′
+  numbers : (ch b : ℕ) (n n′ : List ℕ) → e ≡ mobileEntry ch b n → e′ ≡ mobileEntry ch b n′ → Exchanged n n′
       → OtherHolds B (channelAt s ch .holder) → Alike B s e e′
 
 -- Two feeds from a set that differ only so, with equal buffer lengths. "Who holds is what the line rules and refusals give for
