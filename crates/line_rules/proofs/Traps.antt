@@ -7,9 +7,9 @@ use mathlib.Core.Path.{_≡_, refl, ap, _∙_}
 use lib.Dec.{eqb, ltb, leb}
 use lib.ListN.{replicate}
 use Rattle.telegram.specs.declared.message.Number.{Number}
-use Rattle.channel.specs.State.{only, isPresent}
-use Rattle.line_rules.specs.Rules.{Context, Step, mobileOn, mobileRecipients, mobileCall, openingSends, to, quietTime, releaseTime, cut, pressOff, mobileOff, tick, tickIdle, tickQuiet, tickRelease, endOf, freedSends}
-use Rattle.line_rules.specs.Promises.{AllTo, OnToTheHolder, OffToTheTold, NumberForTheHolder, ArrivalOutlivesACut, OneTimerAtATime, TenAndAHundredAndThirty, sentByTicks, recipientsOf}
+use Rattle.channel.specs.State.{only, isHeld, heldBy, holderPlace, isPresent}
+use Rattle.line_rules.specs.Rules.{Context, Step, to, when, quietTime, releaseTime, openingSends, endOf, pressOffSends, mobileOffSends, freedSends, capture, captureAt, cut, release, pressOn, pressCall, pressOff, mobileOn, mobileRecipients, mobileCall, mobileOff, tick, tickIdle, tickQuiet, tickRelease, handover, happens}
+use Rattle.line_rules.specs.Promises.{AllTo, OnToTheHolder, OffToTheTold, ToldAreKept, AllAbout, AboutTheHolder, NumberForTheHolder, ArrivalOutlivesACut, OneTimerAtATime, TenAndAHundredAndThirty, sentByTicks, recipientsOf}
 use Rattle.channel.specs.declared.state.Holder.{Holder}
 use Rattle.channel.specs.declared.state.Holder.the-variants.{Nobody, Held}
 use Rattle.channel.specs.declared.state.Call.{Call}
@@ -18,6 +18,7 @@ use Rattle.channel.specs.declared.state.Send.{Send}
 use Rattle.channel.specs.declared.state.Arrival.{Arrival}
 use Rattle.channel.specs.declared.state.Arrival.the-variants.{Absent, Present}
 use Rattle.channel.specs.declared.state.Channel.{Channel}
+use Rattle.channel.specs.declared.state.Event.the-variants.{Capture, Release, Cut, PressOn, PressOff, MobileOn, MobileOff, Tick, Handover}
 use Rattle.channel.specs.declared.state.Notice.the-variants.{CaptureState}
 
 pub off-to-the-told : OffToTheTold
@@ -39,6 +40,83 @@ on-to-the-holder x b n c d h =
     let m = mobileRecipients (c .holder) (x .listeners) in
     let o : AllTo (only d) (openingSends (c .call) (mobileCall b n m)) = rw e (opening-to (c .call) b (only d) n) in
     (e, (e, to-append (only d) (openingSends (c .call) (mobileCall b n m)) _ o (e, tt)))
+
+pub told-are-kept : ToldAreKept
+unfolding mobileOn
+told-are-kept x b n c =
+    let m = mobileRecipients (c .holder) (x .listeners) in
+    (refl, (refl, to-append m (openingSends (c .call) (mobileCall b n m)) _ (opening-to (c .call) b m n) (refl, tt)))
+
+-- ---- whom a 550651 is about
+
+module _ (d : ℕ) where
+  about-append : (ss ts : List Send) → AllAbout d ss → AllAbout d ts → AllAbout d (ss ++ ts)
+  about-append [] ts a b = b
+  about-append (s ∷ ss) ts a b = (a .0, about-append ss ts (a .1) b)
+
+  about-when : (t : Bool) (ss : List Send) → AllAbout d ss → AllAbout d (when t ss)
+  about-when true ss a = a
+  about-when false ss a = tt
+
+  about-either : (t : Bool) (a b : Step) → AllAbout d (a .sends) → AllAbout d (b .sends) → AllAbout d (cond t a b .sends)
+  about-either true a b p q = p
+  about-either false a b p q = q
+
+  about-opening : (k new : Call) → AllAbout d (openingSends k new)
+  about-opening Closed Closed = tt
+  about-opening Closed (Open k w b s m) = (tt, tt)
+  about-opening (Open k w b s m) new = tt
+
+  about-end : (r : ℕ) (k : Call) → AllAbout d (endOf r k)
+  about-end r Closed = tt
+  about-end r (Open k w b s m) = (tt, tt)
+
+  about-off : (a : Arrival) → AllAbout d (mobileOffSends a)
+  about-off Absent = tt
+  about-off (Present k b n m) = (tt, (tt, (tt, tt)))
+
+about-capture : (h : Holder) (x : Context) (d : ℕ) (c : Channel) → AllAbout d (captureAt h x d c .sends)
+about-capture Nobody x d c = (tt, (refl, tt))
+about-capture (Held h) x d c = (tt, tt)
+
+about-cut : (x : Context) (c : Channel) → AllAbout (holderPlace (c .holder)) (cut x c .sends)
+unfolding cut
+about-cut x c =
+    let d = holderPlace (c .holder) in
+    about-append d (when (c .pressed) (pressOffSends x c)) _ (about-when d (c .pressed) (pressOffSends x c) (tt, (tt, tt)))
+    (about-append d (endOf 1 (c .call)) (freedSends x c) (about-end d 1 (c .call)) (refl, tt))
+
+about-tick : (x : Context) (c : Channel) → AllAbout (holderPlace (c .holder)) (tick x c .sends)
+unfolding tick tickIdle tickQuiet tickRelease
+about-tick x c =
+    let d = holderPlace (c .holder) in
+    about-either d (c .pressed) _ _ tt
+    (about-either d (isPresent (c .arrival)) _ _ tt
+    (about-either d (ltb 0 (c .quiet)) _ _
+    (about-either d (leb (c .quiet) 1) _ _ (about-end d 3 (c .call)) tt)
+    (about-either d (isHeld (c .holder)) _ _ (about-either d (leb (c .release) 1) _ _ (refl, tt) tt) tt)))
+
+about-handover : (x : Context) (c : Channel) → AllAbout (holderPlace (c .holder)) (handover x c .sends)
+unfolding handover
+about-handover x c =
+    let d = holderPlace (c .holder) in
+    about-append d (when (c .pressed) (pressOffSends x c)) _ (about-when d (c .pressed) (pressOffSends x c) (tt, (tt, tt)))
+    (about-append d (mobileOffSends (c .arrival)) _ (about-off d (c .arrival))
+    (about-append d (endOf 2 (c .call)) _ (about-end d 2 (c .call)) (about-when d (isHeld (c .holder)) (freedSends x c) (refl, tt))))
+
+pub about-the-holder : AboutTheHolder
+unfolding happens capture release pressOn pressOff mobileOn mobileOff
+about-the-holder (Capture d) x c = about-capture (c .holder) x d c
+about-the-holder (Release d) x c = about-either (holderPlace (c .holder)) (heldBy d (c .holder)) _ _ (tt, about-cut x c) (tt, tt)
+about-the-holder Cut x c = about-cut x c
+about-the-holder PressOn x c = (tt, about-append (holderPlace (c .holder)) (openingSends (c .call) (pressCall x c)) _ (about-opening (holderPlace (c .holder)) (c .call) (pressCall x c)) (tt, tt))
+about-the-holder PressOff x c = (tt, (tt, tt))
+about-the-holder (MobileOn b n) x c =
+    let m = mobileRecipients (c .holder) (x .listeners) in
+    (tt, (tt, about-append (holderPlace (c .holder)) (openingSends (c .call) (mobileCall b n m)) _ (about-opening (holderPlace (c .holder)) (c .call) (mobileCall b n m)) (tt, tt)))
+about-the-holder MobileOff x c = about-off (holderPlace (c .holder)) (c .arrival)
+about-the-holder Tick x c = about-tick x c
+about-the-holder Handover x c = about-handover x c
 
 pub number-for-the-holder : NumberForTheHolder
 number-for-the-holder desk channel holder state n n′ h = rw h

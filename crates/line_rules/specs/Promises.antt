@@ -8,13 +8,17 @@ use lib.Dec.{eqb, ltb}
 use lib.ListN.{replicate}
 use Rattle.telegram.specs.Telegram.{num}
 use Rattle.telegram.specs.declared.message.Number.{Number}
-use Rattle.channel.specs.State.{only}
-use Rattle.line_rules.specs.Rules.{Context, cut, pressOff, mobileOn, mobileOff, tick, endOf, freedSends}
+use Rattle.channel.specs.State.{only, holderPlace}
+use Rattle.line_rules.specs.Rules.{Context, cut, pressOff, mobileOn, mobileOff, tick, endOf, freedSends, happens}
 use Rattle.line_rules.specs.Notices.{contentFor}
 use Rattle.channel.specs.declared.state.Holder.the-variants.{Held}
+use Rattle.channel.specs.declared.state.Arrival.{Arrival}
 use Rattle.channel.specs.declared.state.Arrival.the-variants.{Absent, Present}
 use Rattle.channel.specs.declared.state.Channel.{Channel}
-use Rattle.channel.specs.declared.state.Notice.the-variants.{CaptureState}
+use Rattle.channel.specs.declared.state.Event.{Event}
+use Rattle.channel.specs.declared.state.Event.the-variants.{Capture, Release, Cut, PressOn, PressOff, MobileOn, MobileOff, Tick, Handover}
+use Rattle.channel.specs.declared.state.Notice.{Notice}
+use Rattle.channel.specs.declared.state.Notice.the-variants.{PressAnswer, Incoming, BaseArrival, Call, CallerNotice, CaptureReply, CaptureState}
 use Rattle.channel.specs.declared.state.Send.{Send}
 
 abbrev pub recipientsOf : List Send → List ℕ
@@ -35,7 +39,46 @@ AllTo m (s ∷ ss) = (s .recipients ≡ m) × AllTo m ss
 abbrev pub OnToTheHolder : Type 0
 OnToTheHolder = (x : Context) (b : ℕ) (n : Number) (c : Channel) (d : ℕ) → c .holder ≡ Held d → AllTo (only d) (mobileOn x b n c .sends)
 
--- A 550651 says the same to a desk that does not hold, whatever the holder's number (`Traps.number-for-the-holder`).
+-- the recipients that an arrival keeps
+abbrev pub keptIn : Arrival → ℕ
+keptIn Absent = 0
+keptIn (Present k b n m) = m
+
+-- A mobile on keeps whom it tells: all of it goes to the recipients of the arrival that it makes (`Traps.told-are-kept`).
+abbrev pub ToldAreKept : Type 0
+ToldAreKept = (x : Context) (b : ℕ) (n : Number) (c : Channel) → AllTo (keptIn (mobileOn x b n c .next .arrival)) (mobileOn x b n c .sends)
+
+-- if a notice is a 550651, it is about this desk
+abbrev pub About : ℕ → Notice → Type 0
+About d (PressAnswer on) = Unit {0}
+About d (Incoming on) = Unit {0}
+About d (BaseArrival k b n o) = Unit {0}
+About d (Call k w b s t r) = Unit {0}
+About d (CallerNotice k w b n o) = Unit {0}
+About d (CaptureReply r) = Unit {0}
+About d (CaptureState h n s) = h ≡ d
+
+abbrev pub AllAbout : ℕ → List Send → Type 0
+AllAbout d [] = Unit {0}
+AllAbout d (s ∷ ss) = About d (s .notice) × AllAbout d ss
+
+-- whose number an event's 550651 has: that of the desk that captures, or else the holder's
+abbrev pub shownBy : Event → Channel → ℕ
+shownBy (Capture d) c = d
+shownBy (Release d) c = holderPlace (c .holder)
+shownBy Cut c = holderPlace (c .holder)
+shownBy PressOn c = holderPlace (c .holder)
+shownBy PressOff c = holderPlace (c .holder)
+shownBy (MobileOn b n) c = holderPlace (c .holder)
+shownBy MobileOff c = holderPlace (c .holder)
+shownBy Tick c = holderPlace (c .holder)
+shownBy Handover c = holderPlace (c .holder)
+
+-- Every 550651 that an event sends is about the desk that captures, or the holder (`Traps.about-the-holder`).
+abbrev pub AboutTheHolder : Type 0
+AboutTheHolder = (v : Event) (x : Context) (c : Channel) → AllAbout (shownBy v c) (happens v x c .sends)
+
+-- A 550651 says the same to a desk that it is not about, whatever the number (`Traps.number-for-the-holder`).
 abbrev pub NumberForTheHolder : Type 0
 NumberForTheHolder =
     (desk channel holder state : ℕ) (n n′ : Number) → eqb holder desk ≡ false

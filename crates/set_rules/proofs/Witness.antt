@@ -18,7 +18,7 @@ use Rattle.set_rules.specs.Plan.{desksOk, desksIn, hasNumber, distinct, 
 use Rattle.set_rules.specs.Refusals.{firstOf, refusalOf}
 use Rattle.set_rules.specs.Records.{delivered, toEach, recordsOf, spaceOf}
 use Rattle.set_rules.specs.SetRules.{onChannel, accepted}
-use Rattle.set_rules.specs.Feeds.{Item, stepOf, ofDesk, views}
+use Rattle.set_rules.specs.Feeds.{Item, stepOf, ofDesk, views, Seen}
 use Rattle.set_rules.specs.Promises.{Speaks, same, numbers, none, more, item, Exchanged}
 
 exchanged : Exchanged (digitsOf 8 990007) (digitsOf 8 990008)
@@ -32,8 +32,12 @@ other p = omega arith
 last : List Item → ℕ
 last f = getD (getD f 6 (item []) .entry) 13 0
 
+-- the last digit of the number in the 550464 that the seventh entry sends: behind a contact of 8 bytes and 5, 16 and 14 more
+learnt : List Seen → ℕ
+learnt vs = getD (getD vs 6 (record { refusal = 0; count = 0; records = [] }) .records) 43 0
+
 pub witness : Speaks
-unfolding last spelled onesIn digitsOf allDigits valueFrom bodyOk valuesIn bytesOf headerOk readTelegram telegramOf isIn capture mobileOn happens placeOf runningFrom readEntry desksOk desksIn hasNumber distinct channelsOk channelsIn planOk setOf firstOf refusalOf delivered toEach recordsOf spaceOf onChannel accepted stepOf ofDesk views
+unfolding last learnt spelled onesIn digitsOf allDigits valueFrom bodyOk valuesIn bytesOf headerOk readTelegram telegramOf isIn capture mobileOn happens placeOf runningFrom readEntry desksOk desksIn hasNumber distinct channelsOk channelsIn planOk setOf firstOf refusalOf delivered toEach recordsOf spaceOf onChannel accepted stepOf ofDesk views
 witness = record {
   related =
       more (same refl) refl
@@ -46,4 +50,5 @@ witness = record {
       none))))));
   differ = λ p. let q : _≡_ {A = ℕ} 55 56 = ap last p in omega arith;
   receives = refl;
+  learns = λ p. let q : _≡_ {A = ℕ} 55 56 = ap learnt p in omega arith;
 }

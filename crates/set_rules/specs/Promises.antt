@@ -165,7 +165,7 @@ Hold [] = Unit {0}
 Hold (c ∷ cs) = (stepBy (after newSet (c .before)) (c .entry) .refusal ≡ c .refusal) × Hold cs
 
 -- The claim speaks of something (`Witness.witness`): two desks share channel 7, desk 0 holds it, and the feeds differ in the
--- number of a mobile under it. Desk 1 receives the 550651 of the capture, 34 bytes.
+-- number of a mobile under it. Desk 1 receives the 550651 of the capture, 34 bytes, and desk 0 does get the number.
 abbrev pub sharedFeed : ℕ → List Item
 sharedFeed number =
     item (entryOf 7 (2 ∷ 0 ∷ 12 ∷ 48 ∷ 48 ∷ 49 ∷ 50 ∷ 48 ∷ 48 ∷ 48 ∷ 49 ∷ 0 ∷ 13 ∷ 48 ∷ 48 ∷ 49 ∷ 51 ∷ 48 ∷ 48 ∷ 48 ∷ 49 ∷ 1 ∷ 7 ∷ 3 ∷ []))
@@ -181,6 +181,7 @@ pub record Speaks : Type 0 where
   pub related : Related 1 newSet (sharedFeed 990007) (sharedFeed 990008)
   pub differ : sharedFeed 990007 ≡ sharedFeed 990008 → ⊥
   pub receives : map (λ (v : Seen). length (v .records)) (views 1 newSet (sharedFeed 990007)) ≡ 21 ∷ 0 ∷ 21 ∷ 0 ∷ 0 ∷ 34 ∷ 0 ∷ []
+  pub learns : views 0 newSet (sharedFeed 990007) ≡ views 0 newSet (sharedFeed 990008) → ⊥
 
 -- ---- The marked case of the ticks, for every set that fits its words (`Ticks.ticked`)
 

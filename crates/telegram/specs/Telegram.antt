@@ -223,7 +223,7 @@ over bs buffer = bs ++ drop (length bs) buffer
 unfoldable pub writeInto : ℕ → Message → List ℕ → List ℕ
 writeInto c m buffer = cond (sendable c m && leb (sizeOf m) (length buffer)) (over (telegramOf c m) buffer) buffer
 
--- ---- 01's numbers for the answers
+-- ---- 01's numbers and values for the answers
 
 abbrev pub readRefusal : Reading → ℕ
 readRefusal (Telegram c m) = 0
@@ -233,3 +233,9 @@ abbrev pub writeRefusal : Written → ℕ
 writeRefusal (Count n) = 0
 writeRefusal OutOfRange = 10
 writeRefusal NoRoom = 16
+
+-- "Each refusal returns count 0"
+abbrev pub writeCount : Written → ℕ
+writeCount (Count n) = n
+writeCount OutOfRange = 0
+writeCount NoRoom = 0
