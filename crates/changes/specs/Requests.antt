@@ -1,4 +1,4 @@
--- What a desk's telegram asks, as the code holds it. It serves the contracts of inner functions.
+-- What an entry about one channel or one desk asks, as the code holds it: the contract of `request_of`.
 use Prim.Native.Nat.{ℕ}
 use mathlib.Core.List.{List}
 use mathlib.Core.Bool.{Bool, _&&_, not, cond}

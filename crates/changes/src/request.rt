@@ -11,7 +11,7 @@ ghost use Rattle.telegram.specs.Telegram.{readTelegram};
 ghost use Rattle.set_rules.specs.Entries.{telegramIn};
 ghost use Rattle.changes.specs.Requests.{asks, asksNothing, askedBy, unread, unreadRequest, requestIn, requestFor};
 
-// A refusal other than 0 is 8, 9 or 10, and then all else is 0. The flag is a capture request's order or an operation
+// A refusal other than 0 is 1 to 4 or 7 to 10, and then all else is 0. The flag is a capture request's order or an operation
 // answer's state.
 pub struct Request {
     pub identifier: u32,

@@ -1,8 +1,11 @@
 -- The numbers that a set is kept as are that set, and a refused entry leaves them.
 -- Assumes nothing.
-use mathlib.Core.Bool.{Bool, true, false}
-use mathlib.Core.Path.{_≡_, refl, ap, _∙_}
+use Prim.Native.Nat.{ℕ}
+use mathlib.Core.List.{List}
+use mathlib.Core.Bool.{Bool, true, false, false≢true}
+use mathlib.Core.Path.{_≡_, refl, sym, ap, _∙_}
 use lib.Dec.{eqb}
+use borrow.Author.Tests.{eq-eqb, ne-eqb}
 use Rattle.channel.specs.declared.state.Holder.{Holder}
 use Rattle.channel.specs.declared.state.Holder.the-variants.{Nobody, Held}
 use Rattle.channel.specs.declared.state.Call.{Call}
@@ -11,9 +14,10 @@ use Rattle.channel.specs.declared.state.Arrival.{Arrival}
 use Rattle.channel.specs.declared.state.Arrival.the-variants.{Absent, Present}
 use Rattle.channel.specs.declared.state.Channel.{Channel}
 use Rattle.set_rules.specs.declared.state.Desk.{Desk}
-use Rattle.controller.specs.Plain.{holderIn, callIn, arrivalIn, channelIn, deskIn, setIn, flagOf, holderOf, callOf, arrivalOf, channelOf, deskOf, plainOf}
+use Rattle.controller.specs.Plain.{holderIn, callIn, arrivalIn, channelIn, deskIn, setIn, flagOf, holderOf, callOf, arrivalOf, channelOf, deskOf, plainOf, plainAfter}
 use Rattle.set_rules.proofs.Answers.{refused}
-use Rattle.controller.specs.Promises.{Returns, Untouched}
+use Rattle.set_rules.specs.Feeds.{stepOf}
+use Rattle.controller.specs.Promises.{Returns, Untouched, Stepped}
 use Rattle.controller.proofs.Maps.{map-back}
 
 flag-back : (b : Bool) → eqb (flagOf b) 1 ≡ b
@@ -42,4 +46,11 @@ pub returns : Returns
 returns s = simp (map-back channelOf channelIn channel-back (s .channels), map-back deskOf deskIn desk-back (s .desks), flag-back (s .planned)) refl
 
 pub untouched : Untouched
-untouched s e room h = ap plainOf (refused (setIn (plainOf s)) e room h .1 ∙ returns s)
+untouched p e room h = rw (ne-eqb (stepOf (setIn p) e room .refusal) 0 h) refl
+
+pub stepped : Stepped
+stepped s e room = rw (returns s) (go (eqb (stepOf s e room .refusal) 0) refl)
+  where
+    go : (t : Bool) → eqb (stepOf s e room .refusal) 0 ≡ t → plainAfter (plainOf s) (stepOf s e room) ≡ plainOf (stepOf s e room .after)
+    go true k = rw k refl
+    go false k = rw k (ap plainOf (sym (refused s e room (λ z. false≢true (sym k ∙ eq-eqb (stepOf s e room .refusal) 0 z)) .1)))

@@ -83,6 +83,10 @@ abbrev pub plainOf : LineSet → PlainSet
 plainOf s =
     record { channels = map channelOf (s .channels); desks = map deskOf (s .desks); size = record { desks = s .size .desks; channels = s .size .channels }; planned = flagOf (s .planned); spare = 0 }
 
+-- the numbers after an entry; "each refusal .. leaves set and buffer untouched", whatever the numbers are
+abbrev pub plainAfter : PlainSet → Outcome → PlainSet
+plainAfter p o = cond (eqb (o .refusal) 0) (plainOf (o .after)) p
+
 -- the answer to an entry, with the set as numbers
-abbrev pub keptOf : Outcome → Kept
-keptOf o = record { set = plainOf (o .after); count = o .count; refusal = o .refusal }
+abbrev pub keptOf : PlainSet → Outcome → Kept
+keptOf p o = record { set = plainAfter p o; count = o .count; refusal = o .refusal }

@@ -4,15 +4,19 @@ use mathlib.Core.List.{List}
 use mathlib.Core.Path.{_≡_}
 use Rattle.set_rules.specs.Feeds.{stepOf}
 use Rattle.set_rules.specs.declared.state.LineSet.{LineSet}
-use Rattle.controller.specs.Plain.{setIn, plainOf}
+use Rattle.controller.specs.Plain.{setIn, plainOf, plainAfter}
+use Rattle.controller.specs.declared.plain.PlainSet.{PlainSet}
 
 -- 1. The numbers that a set is kept as are that set: what holds of sets over whole feeds holds of those in memory
 -- (`Returns.returns`).
 abbrev pub Returns : Type 0
 Returns = (s : LineSet) → setIn (plainOf s) ≡ s
 
--- 2. A refused entry leaves every number of such a set (`Returns.untouched`).
+-- 2. A refused entry leaves every number, whatever the numbers are (`Returns.untouched`).
 abbrev pub Untouched : Type 0
 Untouched =
-    (s : LineSet) (e : List ℕ) (room : ℕ) → (stepOf (setIn (plainOf s)) e room .refusal ≡ 0 → ⊥)
-    → plainOf (stepOf (setIn (plainOf s)) e room .after) ≡ plainOf s
+    (p : PlainSet) (e : List ℕ) (room : ℕ) → (stepOf (setIn p) e room .refusal ≡ 0 → ⊥) → plainAfter p (stepOf (setIn p) e room) ≡ p
+
+-- 3. After an entry the numbers are the set after it, where they were a set's before (`Returns.stepped`).
+abbrev pub Stepped : Type 0
+Stepped = (s : LineSet) (e : List ℕ) (room : ℕ) → plainAfter (plainOf s) (stepOf (setIn (plainOf s)) e room) ≡ plainOf (stepOf s e room .after)

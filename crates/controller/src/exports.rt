@@ -8,7 +8,7 @@ ghost use lib.ListN.{length};
 ghost use Rattle.telegram.specs.Telegram.{over};
 ghost use Rattle.set_rules.specs.State.{newSet};
 ghost use Rattle.set_rules.specs.Feeds.{stepOf};
-ghost use Rattle.controller.specs.Plain.{setIn, plainOf, setSize, setAlign, keptOf};
+ghost use Rattle.controller.specs.Plain.{setIn, plainOf, plainAfter, setSize, setAlign, keptOf};
 
 // The answer to an entry, with the set as numbers.
 pub struct Kept {
@@ -24,11 +24,19 @@ fn new_plain() -> PlainSet
     convert::plain_of(set)
 }
 
+// A refused entry leaves every number as it is, even of a set that nobody made.
 fn step_plain(plain: PlainSet, entry: &[u8], buffer: &mut [u8]) -> Kept
-    ensures { λ r. ⌜ (r ≡ keptOf (stepOf (setIn plain) (now (entry .entry)) (length (now (buffer .entry))))) × (now (buffer .exit) ≡ over (stepOf (setIn plain) (now (entry .entry)) (length (now (buffer .entry))) .bytes) (now (buffer .entry))) ⌝ }
+    ensures { λ r. ⌜ (r ≡ keptOf plain (stepOf (setIn plain) (now (entry .entry)) (length (now (buffer .entry))))) × (now (buffer .exit) ≡ over (stepOf (setIn plain) (now (entry .entry)) (length (now (buffer .entry))) .bytes) (now (buffer .entry))) ⌝ }
 {
     let set = convert::set_in(plain);
     let a = line_set::step(set, entry, buffer);
+    if a.refusal != 0 {
+        return Kept {
+            set: plain,
+            count: a.count,
+            refusal: a.refusal,
+        };
+    }
     let next = a.set;
     let after = convert::plain_of(next);
     Kept {
@@ -71,7 +79,7 @@ pub extern "C" fn imjauska_step(
     buffer: &mut [u8],
     count: &mut usize,
 ) -> u8
-    ensures { λ r. ⌜ (r ≡ stepOf (setIn (now (set .entry))) (now (entry .entry)) (length (now (buffer .entry))) .refusal) × ((now (count .exit) ≡ stepOf (setIn (now (set .entry))) (now (entry .entry)) (length (now (buffer .entry))) .count) × ((now (set .exit) ≡ plainOf (stepOf (setIn (now (set .entry))) (now (entry .entry)) (length (now (buffer .entry))) .after)) × (now (buffer .exit) ≡ over (stepOf (setIn (now (set .entry))) (now (entry .entry)) (length (now (buffer .entry))) .bytes) (now (buffer .entry))))) ⌝ }
+    ensures { λ r. ⌜ (r ≡ stepOf (setIn (now (set .entry))) (now (entry .entry)) (length (now (buffer .entry))) .refusal) × ((now (count .exit) ≡ stepOf (setIn (now (set .entry))) (now (entry .entry)) (length (now (buffer .entry))) .count) × ((now (set .exit) ≡ plainAfter (now (set .entry)) (stepOf (setIn (now (set .entry))) (now (entry .entry)) (length (now (buffer .entry))))) × (now (buffer .exit) ≡ over (stepOf (setIn (now (set .entry))) (now (entry .entry)) (length (now (buffer .entry))) .bytes) (now (buffer .entry))))) ⌝ }
 {
     let a = step_plain(*set, entry, buffer);
     *set = a.set;

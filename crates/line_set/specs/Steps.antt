@@ -1,4 +1,5 @@
--- One entry as the code takes it, kind by kind. `proofs/ByKind.antt` shows that together they are `stepOf`.
+-- One entry as the code takes it, kind by kind. `proofs/ByKind.antt`, `Lifting.antt` and `OneStep.antt` show that together they
+-- are `stepOf`.
 use Prim.Native.Nat.{ℕ}
 use mathlib.Core.List.{List, [], _∷_, _++_}
 use mathlib.Core.Bool.{Bool, cond}

@@ -67,23 +67,23 @@ in-range d ch (Incoming on) h k = tt
 in-range d ch (BaseArrival kd b n o) h k =
     let t = k .0 in
     let c = channel-in ch h in
-    let i = digit-in kd 3 (t .kind-high) (omega arith) in
+    let i = digit-in kd 3 (omega (arith, t .kind-is)) (omega arith) in
     let j = digit-in o 1 (k .1) (omega arith) in
-    simp (c .0, c .1, below b (t .base-ok), t .base-ok, i .0, i .1, le-leb 1 kd (t .kind-low), lt-ltb (n .digits) (10 ^ 8) (t .number-ok), j .0, j .1)
+    simp (c .0, c .1, below b (t .base-ok), t .base-ok, i .0, i .1, le-leb 1 kd (omega (arith, t .kind-is)), lt-ltb (n .digits) (10 ^ 8) (t .number-ok), j .0, j .1)
 in-range d ch (CallNotice kd di b s st r) h k =
     let t = k .0 in
     let c = channel-in ch h in
-    let i = digit-in kd 3 (t .kind-high) (omega arith) in
+    let i = digit-in kd 3 (omega (arith, t .kind-is)) (omega arith) in
     let w = digit-in di 2 (t .direction-high) (omega arith) in
     let j = digit-in st 1 (k .1) (omega arith) in
-    simp (c .0, c .1, below b (t .base-ok), t .base-ok, i .0, i .1, le-leb 1 kd (t .kind-low), w .0, w .1, le-leb 1 di (t .direction-low), j .0, j .1, lt-ltb r (10 ^ 2) (omega arith), le-leb r 3 (k .2), lt-ltb (s .digits) (10 ^ 8) (t .number-ok))
+    simp (c .0, c .1, below b (t .base-ok), t .base-ok, i .0, i .1, le-leb 1 kd (omega (arith, t .kind-is)), w .0, w .1, le-leb 1 di (t .direction-low), j .0, j .1, lt-ltb r (10 ^ 2) (omega arith), le-leb r 3 (k .2), lt-ltb (s .digits) (10 ^ 8) (t .number-ok))
 in-range d ch (CallerNotice kd di b n o) h k =
     let t = k .0 in
     let c = channel-in ch h in
-    let i = digit-in kd 3 (t .kind-high) (omega arith) in
+    let i = digit-in kd 3 (omega (arith, t .kind-is)) (omega arith) in
     let w = digit-in di 2 (t .direction-high) (omega arith) in
     let j = digit-in o 1 (k .1) (omega arith) in
-    simp (c .0, c .1, below b (t .base-ok), t .base-ok, i .0, i .1, le-leb 1 kd (t .kind-low), w .0, w .1, le-leb 1 di (t .direction-low), lt-ltb (n .digits) (10 ^ 8) (t .number-ok), j .0, j .1)
+    simp (c .0, c .1, below b (t .base-ok), t .base-ok, i .0, i .1, le-leb 1 kd (omega (arith, t .kind-is)), w .0, w .1, le-leb 1 di (t .direction-low), lt-ltb (n .digits) (10 ^ 8) (t .number-ok), j .0, j .1)
 in-range d ch (CaptureReply r) h k =
     let c = channel-in ch h in
     let j = digit-in r 1 k (omega arith) in
@@ -137,9 +137,9 @@ EventOk Handover = Unit {0}
 module _ (x : Context) (own : NumberOk (x .own)) (c : Channel) (ok : ChannelOk c) where
   -- the talk of the holder in a call
   kind-ok : (k : Call) → CallOk k → TalkOk (kindOf k) 1 999 (x .own)
-  kind-ok Closed o = record { kind-low = omega arith; kind-high = omega arith; direction-low = omega arith; direction-high = omega arith; base-ok = refl; number-ok = own }
+  kind-ok Closed o = record { kind-is = refl; direction-low = omega arith; direction-high = omega arith; base-ok = refl; number-ok = own }
   kind-ok (Open k d b s m) o =
-      record { kind-low = o .kind-low; kind-high = o .kind-high; direction-low = omega arith; direction-high = omega arith; base-ok = refl; number-ok = own }
+      record { kind-is = o .kind-is; direction-low = omega arith; direction-high = omega arith; base-ok = refl; number-ok = own }
 
   end-ok : (r : ℕ) → r ≤ 3 → (k : Call) → CallOk k → SendsOk (endOf r k)
   end-ok r h Closed o = tt
@@ -218,9 +218,9 @@ module _ (x : Context) (own : NumberOk (x .own)) (c : Channel) (ok : ChannelOk c
   pressOff-ok = record { next-ok = kept _ refl refl refl; sends-ok = press-off-ok }
 
   mobile-talk : (k : Call) → CallOk k → (b : ℕ) (n : Number) → b ≤ 29 → NumberOk n → TalkOk (kindOf k) 2 b n
-  mobile-talk Closed o b n h g = record { kind-low = omega arith; kind-high = omega arith; direction-low = omega arith; direction-high = omega arith; base-ok = rw (le-leb b 29 h); number-ok = g }
+  mobile-talk Closed o b n h g = record { kind-is = refl; direction-low = omega arith; direction-high = omega arith; base-ok = rw (le-leb b 29 h); number-ok = g }
   mobile-talk (Open k d b′ s m) o b n h g =
-      record { kind-low = o .kind-low; kind-high = o .kind-high; direction-low = omega arith; direction-high = omega arith; base-ok = rw (le-leb b 29 h); number-ok = g }
+      record { kind-is = o .kind-is; direction-low = omega arith; direction-high = omega arith; base-ok = rw (le-leb b 29 h); number-ok = g }
 
   mobileOn-ok : (b : ℕ) (n : Number) → b ≤ 29 → NumberOk n → StepOk (mobileOn x b n c)
   unfolding mobileOn

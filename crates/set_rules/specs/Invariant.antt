@@ -7,7 +7,7 @@ use lib.Dec.{leb, ltb}
 use Rattle.fields.specs.Fields.{between}
 use Rattle.telegram.specs.declared.message.Number.{Number}
 use Rattle.channel.specs.State.{isHeld, isPresent}
-use Rattle.line_rules.specs.Rules.{isOpen}
+use Rattle.line_rules.specs.Rules.{general, isOpen}
 use Rattle.channel.specs.declared.state.Call.{Call}
 use Rattle.channel.specs.declared.state.Call.the-variants.{Closed, Open}
 use Rattle.channel.specs.declared.state.Arrival.{Arrival}
@@ -22,14 +22,13 @@ use Rattle.set_rules.specs.declared.state.LineSet.{LineSet}
 abbrev pub NumberOk : Number → Type 0
 NumberOk n = n .digits < 10 ^ 8
 
--- a base of a mobile, or 999 for a desk's own talk
+-- what the field of a base allows
 abbrev pub BaseOk : ℕ → Type 0
 BaseOk b = (leb b 29 || between 997 999 b) ≡ true
 
--- a call's type, direction, base and source
+-- a call's type, direction, base and source; "Type is always 1"
 pub record TalkOk (kind direction base : ℕ) (n : Number) : Type 0 where
-  pub kind-low : 1 ≤ kind
-  pub kind-high : kind ≤ 3
+  pub kind-is : kind ≡ general
   pub direction-low : 1 ≤ direction
   pub direction-high : direction ≤ 2
   pub base-ok : BaseOk base

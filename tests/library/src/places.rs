@@ -88,12 +88,13 @@ pub fn random_entries() -> Verdict {
 }
 
 /// Whatever a set's memory holds, a step ends and writes nothing but what is
-/// lent, and of the buffer no more than it counts.
+/// lent, and of the buffer no more than it counts; a refused one leaves it all.
 pub fn random_sets() -> Verdict {
     let mut random = Random::new(11);
     let entries = feeds::generated(3, 2_000);
     for (number, entry) in entries.iter().cycle().take(40_000).enumerate() {
-        let mut set = Lent::new(&any_set(&mut random));
+        let before = any_set(&mut random);
+        let mut set = Lent::new(&before);
         let room = if number % 2 == 0 {
             LARGEST / 8
         } else {
@@ -105,6 +106,9 @@ pub fn random_sets() -> Verdict {
                 "step {number}: something beside the count was written"
             ));
         };
+        if reply.refusal != 0 && (reply.count != 0 || set.bytes() != before) {
+            return Err(format!("step {number}: a refused entry changed the set"));
+        }
         if reply.count > room
             || buffer.bytes()[reply.count..]
                 .iter()

@@ -69,7 +69,7 @@ stayed = (stay-ref (0 ∷ []) tt (plain (λ _. T.the-row)), (stay-none-slice (1 
 
 -- what `step_plain` ensures, of its result and the buffer's last list
 abbrev Says : PlainSet → List ℕ → List ℕ → Kept → List ℕ → Type 0
-Says h e y r z = (r ≡ keptOf (stepOf (setIn h) e (length y))) × (z ≡ over (stepOf (setIn h) e (length y) .bytes) y)
+Says h e y r z = (r ≡ keptOf h (stepOf (setIn h) e (length y))) × (z ≡ over (stepOf (setIn h) e (length y) .bytes) y)
 
 -- a set's machine value
 abbrev mach : PlainSet → Val

@@ -1,7 +1,10 @@
--- `controller::exports::step_plain` meets its contract: the step, between the two conversions.
+-- `controller::exports::step_plain` meets its contract: the step, between the two conversions; a refused one keeps the numbers.
 -- Assumes nothing.
-use mathlib.Core.Path.{_≡_, ap, _∙_}
+use mathlib.Core.Bool.{Bool, cond}
+use mathlib.Core.Path.{_≡_, sym, ap, _∙_}
+use lib.Dec.{eqb}
 use lib.ListN.{length}
+use borrow.Author.Tests.{eq-eqb, ne-eqb}
 use denote.Ref.{now}
 use Rattle.telegram.specs.Telegram.{over}
 use Rattle.set_rules.specs.Feeds.{answerOf, stepOf}
@@ -20,11 +23,8 @@ set-in-requires c κs = search needs
 step-requires : tie.Need-step-requires
 step-requires c κs = search needs
 
-plain-of-requires : tie.Need-plain-of-requires
-plain-of-requires c κs = search needs
-
-abbrev kept : Answer → Kept
-kept a = record { set = plainOf (a .set); count = a .count; refusal = a .refusal }
+abbrev kept : PlainSet → Answer → Kept
+kept p a = record { set = cond (eqb (a .refusal) 0) (plainOf (a .set)) p; count = a .count; refusal = a .refusal }
 
 same-length : tie.Need-same-length
 same-length c = search needs
@@ -32,15 +32,38 @@ same-length c = search needs
 returns : tie.Need-returns
 returns c =
     let st = c .before .before .before .before .before .before .before .before .before in
+    let p = st .args .plain in
     let e = now (st .args .entry) in
     let b = now (st .args .buffer) in
+    let a = c .before .before .before .before .step .result in
     let f = c .before .before .before .before .step .ensures in
     let i = c .before .before .before .before .before .before .set-in .ensures in (
-      ap (λ (p : PlainSet). record { set = p; count = c .before .before .before .before .step .result .count; refusal = c .before .before .before .before .step .result .refusal }) (c .plain-of .ensures)
-          ∙ ap kept (f .0 ∙ ap (λ (s : LineSet). answerOf (stepOf s e (length b))) i),
+      ap (λ (t : Bool). record { set = cond t (plainOf (a .set)) p; count = a .count; refusal = a .refusal }) (sym (ne-eqb (a .refusal) 0 (c .if1 .taken)))
+          ∙ ap (kept p) (f .0 ∙ ap (λ (s : LineSet). answerOf (stepOf s e (length b))) i),
+      f .1 ∙ ap (λ (s : LineSet). over (stepOf s e (length b) .bytes) b) i,
+    )
+
+plain-of-requires : tie.Need-plain-of-requires
+plain-of-requires c κs = search needs
+
+same-length-2 : tie.Need-same-length-2
+same-length-2 c = search needs
+
+returns-2 : tie.Need-returns-2
+returns-2 c =
+    let st = c .before .before .before .before .before .before .before .before .before .before .before in
+    let p = st .args .plain in
+    let e = now (st .args .entry) in
+    let b = now (st .args .buffer) in
+    let a = c .before .before .before .before .before .before .step .result in
+    let f = c .before .before .before .before .before .before .step .ensures in
+    let i = c .before .before .before .before .before .before .before .before .set-in .ensures in (
+      ap (λ (q : PlainSet). record { set = q; count = a .count; refusal = a .refusal }) (c .plain-of .ensures)
+          ∙ (ap (λ (t : Bool). record { set = cond t (plainOf (a .set)) p; count = a .count; refusal = a .refusal }) (sym (eq-eqb (a .refusal) 0 (c .before .before .if1 .left)))
+          ∙ ap (kept p) (f .0 ∙ ap (λ (s : LineSet). answerOf (stepOf s e (length b))) i)),
       f .1 ∙ ap (λ (s : LineSet). over (stepOf s e (length b) .bytes) b) i,
     )
 
 pub step-plain-spec : {M : Type 1} → statement M
 step-plain-spec =
-    tie.close (tie.spec set-in-requires step-requires plain-of-requires same-length returns)
+    tie.close (tie.spec set-in-requires step-requires same-length returns plain-of-requires same-length-2 returns-2)
