@@ -1,4 +1,4 @@
-/* Steps a set through the listing of document 01 and prints of each entry its number, its refusal and its count. */
+/* Steps a set through the listing of document 01 and prints each entry's answer and records, as the replay program does. */
 #include "imjauska.h"
 
 #include <stdio.h>
@@ -37,12 +37,27 @@ static size_t make_telegram(uint8_t desk, const char *telegram)
     return make(TELEGRAM, payload, size + 1);
 }
 
+/* Each record: how many bytes follow the first two, the version, the desk, and a telegram or a contact. */
+static void print_records(size_t count)
+{
+    const uint8_t *record = records;
+    while (record < records + count) {
+        size_t length = (size_t)record[0] << 8 | record[1];
+        if (record[4] == 1)
+            printf("T %u %.*s\n", record[3], (int)(length - 3), (const char *)record + 5);
+        else
+            printf("C %u %u %u %u\n", record[3], record[5], record[6], record[7]);
+        record += 2 + length;
+    }
+}
+
 static void step(int number, size_t length)
 {
     imjauska_set *set = (imjauska_set *)&memory;
     size_t count;
     uint8_t refusal = imjauska_step(set, entry, length, records, sizeof records, &count);
-    printf("E %d %u %zu\n", number, (unsigned)refusal, count);
+    printf("E %d %u %zu\n", number, refusal, count);
+    print_records(count);
 }
 
 int main(void)

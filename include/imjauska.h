@@ -3,7 +3,8 @@
  * includes and its rules"), entry by entry. Link target/staticlib/libcontroller.a, which `rt staticlib controller` writes
  * for x86-64. Of C it needs memcpy and memmove alone: no allocation, no system call, no global state.
  *
- * Every function is proved to do what is said of it here, for
+ * Every function is proved to do what is said of it here (the two sizes are numbers that a test holds to the compiler's
+ * layout), for
  *   - an entry of any bytes and any length, 0 included,
  *   - a buffer of any length, 0 included, whatever it held,
  *   - a set of any contents.
@@ -12,6 +13,17 @@
  *     buffer of length 0 may be NULL, the set and the count may not,
  *   - while a function runs nobody else uses what it was lent: not two threads at once on one set (two sets are apart),
  *   - 64 KiB of stack (tested, not proved).
+ *
+ * Entries go in, records come out; a number of bytes is 2 bytes, the high one first.
+ *   - An entry: the number of bytes after these two, version 1, its kind, its payload, an item a byte except for telegrams and
+ *     numbers (8 ASCII digits):
+ *       1 telegram    desk, telegram             5 mobile off  channel
+ *       2 press       desk, channel, on          6 tick        none: one second has passed
+ *       3 cut         desk, channel              7 plan        desks, channels (docs/REFERENCE.md)
+ *       4 mobile on   channel, base, number      8 handover    none
+ *     Time is the caller's: the timers stand still unless a tick is stepped every second.
+ *   - A record: the number of bytes after these two, version 1, the desk that it is for, and then 1 and a telegram, or 2 and a
+ *     contact of three bytes (1 press answer or 2 incoming; channel; on).
  */
 #ifndef IMJAUSKA_H
 #define IMJAUSKA_H
@@ -68,6 +80,8 @@ void imjauska_new(imjauska_set *set);
  * Takes one entry, its two length bytes included, and writes the records that it sends into the buffer, one after another.
  * Returns IMJAUSKA_ACCEPTED or why the entry was refused; *count becomes the number of bytes written.
  * Accepted: the bytes from *count on stay as they were. Refused: *count is 0, and the set and the buffer stay as they were.
+ * After IMJAUSKA_NO_ROOM the same entry may be given again with a larger buffer; 22,976 bytes are enough for every entry (32
+ * channels, 4 desks, all that a handover can end: counted, not proved).
  */
 uint8_t imjauska_step(imjauska_set *set, const uint8_t *entry, size_t entry_length, uint8_t *buffer, size_t buffer_length,
                       size_t *count);

@@ -1,5 +1,5 @@
--- What desk B may see of a channel and of what it sends. `hide B` puts the none-number in the place of each number that B was
--- not told; a rule goes by what is left: `hide (rule (hide c)) ≡ hide (rule c)`.
+-- What desk B may see of a channel and of what it sends. `hide B` puts the none-number in the place of the number of each call
+-- and arrival that B was not told of; a rule goes by what is left: `hide (rule (hide c)) ≡ hide (rule c)`.
 -- Assumes nothing.
 use Prim.Native.Nat.{ℕ, zero, suc, _-_}
 use mathlib.Core.List.{List, [], _∷_, _++_}
