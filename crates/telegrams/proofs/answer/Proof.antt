@@ -18,59 +18,11 @@ abbrev μ-loop : tie.MeasureT-loop
 loop-holds : tie.Need-loop-holds Inv-loop μ-loop
 loop-holds c = (omega arith, omega arith, refl)
 
-sub-loop : tie.Need-sub-loop Inv-loop μ-loop
-sub-loop c = search needs
-
-add-from : tie.Need-add-from Inv-loop μ-loop
-add-from c = search needs
-
-shared-slice-read-big-endian : tie.Need-shared-slice-read-big-endian Inv-loop μ-loop
-shared-slice-read-big-endian c = search needs
-
-add-big-endian : tie.Need-add-big-endian Inv-loop μ-loop
-add-big-endian c = search needs
-
-shared-slice-read-big-endian-2 : tie.Need-shared-slice-read-big-endian-2 Inv-loop μ-loop
-shared-slice-read-big-endian-2 c = search needs
-
-big-endian-requires : tie.Need-big-endian-requires Inv-loop μ-loop
-big-endian-requires c κs = search needs
-
-sub-if1 : tie.Need-sub-if1 Inv-loop μ-loop
-sub-if1 c = search needs
-
-sub-if2 : tie.Need-sub-if2 Inv-loop μ-loop
-sub-if2 c = search needs
-
-add-to : tie.Need-add-to Inv-loop μ-loop
-add-to c = search needs
-
-sub-put-line : tie.Need-sub-put-line Inv-loop μ-loop
-sub-put-line c = search needs
-
-part-put-line-start : tie.Need-part-put-line-start Inv-loop μ-loop
-part-put-line-start c = search needs
-
-part-put-line-end : tie.Need-part-put-line-end Inv-loop μ-loop
-part-put-line-end c = search needs
-
-sub-put-line-2 : tie.Need-sub-put-line-2 Inv-loop μ-loop
-sub-put-line-2 c = search needs
-
-part-put-line-start-2 : tie.Need-part-put-line-start-2 Inv-loop μ-loop
-part-put-line-start-2 c = search needs
-
-part-put-line-end-2 : tie.Need-part-put-line-end-2 Inv-loop μ-loop
-part-put-line-end-2 c = search needs
-
 put-line-requires : tie.Need-put-line-requires Inv-loop μ-loop
 put-line-requires c κs = simp (length-take, length-drop) (omega arith)
 
 add-written : tie.Need-add-written Inv-loop μ-loop
 add-written c = omega (arith, c .before .before .put-line .ensures)
-
-loop-less : tie.Need-loop-less Inv-loop μ-loop
-loop-less c = omega arith
 
 loop-again : tie.Need-loop-again Inv-loop μ-loop
 loop-again c =
@@ -99,31 +51,8 @@ pub answer-spec : {M : Type 1} → statement M
 answer-spec =
     tie.close
     (tie.spec
-    Inv-loop
-    μ-loop
-    loop-holds
-    sub-loop
-    add-from
-    shared-slice-read-big-endian
-    add-big-endian
-    shared-slice-read-big-endian-2
-    big-endian-requires
-    sub-if1
-    sub-if2
-    add-to
-    sub-put-line
-    part-put-line-start
-    part-put-line-end
-    sub-put-line-2
-    part-put-line-start-2
-    part-put-line-end-2
-    put-line-requires
-    add-written
-    loop-less
-    loop-again
-    same-length
-    returns
-    same-length-2
-    returns-2
-    same-length-3
-    returns-3)
+    Inv-loop μ-loop loop-holds (λ c. search needs) (λ c. search needs) (λ c. search needs) (λ c. search needs)
+    (λ c. search needs) (λ c κs. search needs) (λ c. search needs) (λ c. search needs) (λ c. search needs)
+    (λ c. search needs) (λ c. search needs) (λ c. search needs) (λ c. search needs) (λ c. search needs)
+    (λ c. search needs) put-line-requires add-written (λ c. omega arith) loop-again same-length returns same-length-2
+    returns-2 same-length-3 returns-3)

@@ -18,41 +18,17 @@ abbrev μ-loop : tie.MeasureT-loop
 loop-holds : tie.Need-loop-holds Inv-loop μ-loop
 loop-holds c = (omega arith, refl, refl)
 
-array-share-prefix-input : tie.Need-array-share-prefix-input Inv-loop μ-loop
-array-share-prefix-input c = search needs
-
 slice-aggregate-answer : tie.Need-slice-aggregate-answer Inv-loop μ-loop
 slice-aggregate-answer c = sym (length-take-le (c .before .before .loop .have) (c .before .before .loop .input) (omega arith))
 
-slice-aggregate-answer-2 : tie.Need-slice-aggregate-answer-2 Inv-loop μ-loop
-slice-aggregate-answer-2 c = search needs
-
-answer-requires : tie.Need-answer-requires Inv-loop μ-loop
-answer-requires c κs = search needs
-
-array-share-prefix-text : tie.Need-array-share-prefix-text Inv-loop μ-loop
-array-share-prefix-text c = search needs
-
 slice-aggregate-write-all : tie.Need-slice-aggregate-write-all Inv-loop μ-loop
 slice-aggregate-write-all c = sym (length-take-le (c .before .before .answer .result .written) (c .before .before .answer .last .1 .0) (omega (arith, c .before .before .answer .ensures .1)))
-
-write-all-requires : tie.Need-write-all-requires Inv-loop μ-loop
-write-all-requires c κs = search needs
-
-slice-aggregate-refill : tie.Need-slice-aggregate-refill Inv-loop μ-loop
-slice-aggregate-refill c = search needs
 
 refill-requires : tie.Need-refill-requires Inv-loop μ-loop
 refill-requires c κs =
     let l = c .before .before .before .before .before .before .before .before .before .loop in
     let t = length-take-le (l .have) (l .input) (omega arith) in
     (omega (arith, c .before .before .before .before .before .answer .ensures .0), omega arith)
-
-sub-turns : tie.Need-sub-turns Inv-loop μ-loop
-sub-turns c = search needs
-
-loop-less : tie.Need-loop-less Inv-loop μ-loop
-loop-less c = search needs
 
 loop-again : tie.Need-loop-again Inv-loop μ-loop
 loop-again c = (omega (arith, c .before .before .refill .ensures, c .before .before .refill .kept .0), omega (arith, c .before .before .refill .kept .0), omega (arith, c .before .before .before .before .before .before .before .before .answer .kept .1 .0))
@@ -70,21 +46,6 @@ pub main-spec : {M : Type 1} → statement M
 main-spec =
     tie.close
     (tie.spec
-    Inv-loop
-    μ-loop
-    loop-holds
-    array-share-prefix-input
-    slice-aggregate-answer
-    slice-aggregate-answer-2
-    answer-requires
-    array-share-prefix-text
-    slice-aggregate-write-all
-    write-all-requires
-    slice-aggregate-refill
-    refill-requires
-    sub-turns
-    loop-less
-    loop-again
-    returns
-    returns-2
-    returns-3)
+    Inv-loop μ-loop loop-holds (λ c. search needs) slice-aggregate-answer (λ c. search needs) (λ c κs. search needs)
+    (λ c. search needs) slice-aggregate-write-all (λ c κs. search needs) (λ c. search needs) refill-requires
+    (λ c. search needs) (λ c. search needs) loop-again returns returns-2 returns-3)

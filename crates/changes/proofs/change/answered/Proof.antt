@@ -15,15 +15,6 @@ use borrow.Author.Needs.{needs}
 use Rattle.changes.proofs.change.answered.Statement.{statement}
 use Rattle.changes.proofs.change.answered.Tie as tie
 
-desk-at-requires : tie.Need-desk-at-requires
-desk-at-requires c κs = search needs
-
-answered-requires : tie.Need-answered-requires
-answered-requires c κs = search needs
-
-linked-requires : tie.Need-linked-requires
-linked-requires c κs = search needs
-
 returns : tie.Need-returns
 unfolding spaceOf recordsOf
 returns c =
@@ -34,4 +25,4 @@ returns c =
     (ap (λ (ds : List Desk). change (a .c) ds 0) (c .linked .ensures ∙ ap (λ (k : Link). linkedAt (a .d) (λ (j : Link). k) (a .desks)) l))
 
 pub answered-spec : {M : Type 1} → statement M
-answered-spec = tie.close (tie.spec desk-at-requires answered-requires linked-requires returns)
+answered-spec = tie.close (tie.spec (λ c κs. search needs) (λ c κs. search needs) (λ c κs. search needs) returns)

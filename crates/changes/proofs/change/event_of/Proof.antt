@@ -8,12 +8,6 @@ use borrow.Author.Needs.{needs}
 use Rattle.changes.proofs.change.event_of.Statement.{statement}
 use Rattle.changes.proofs.change.event_of.Tie as tie
 
-number-in-requires : tie.Need-number-in-requires
-number-in-requires c κs = search needs
-
-cast-t8 : tie.Need-cast-t8
-cast-t8 c = search needs
-
 returns : tie.Need-returns
 returns c = simp (c .before .before .match .keys1, eq-eqb _ _ (c .if1 .taken)) refl
 
@@ -31,4 +25,4 @@ returns-5 c = simp (ne-eqb _ _ (c .match .rest .0 .0 .1), ne-eqb _ _ (c .match .
 
 pub event-of-spec : {M : Type 1} → statement M
 event-of-spec =
-    tie.close (tie.spec number-in-requires cast-t8 returns returns-2 returns-3 returns-4 returns-5)
+    tie.close (tie.spec (λ c κs. search needs) (λ c. search needs) returns returns-2 returns-3 returns-4 returns-5)

@@ -15,15 +15,6 @@ use borrow.Author.Needs.{needs}
 use Rattle.changes.proofs.change.line.Statement.{statement}
 use Rattle.changes.proofs.change.line.Tie as tie
 
-desk-at-requires : tie.Need-desk-at-requires
-desk-at-requires c κs = search needs
-
-judge-line-requires : tie.Need-judge-line-requires
-judge-line-requires c κs = search needs
-
-refuse-requires : tie.Need-refuse-requires
-refuse-requires c κs = search needs
-
 returns : tie.Need-returns
 unfolding lineIn
 returns c =
@@ -36,18 +27,6 @@ returns c =
     let n : c .before .before .judge-line .result ≡ m =
     c .before .before .judge-line .ensures ∙ ap (λ (k : Desk). lineRefusal x (ltb (x .desk) (a .n)) (k .link .phase) (a .found) (a .c)) (c .before .before .before .before .desk-at .ensures) in
     judged-bad-in (a .desks) (a .c) f b m (λ z. c .before .if1 .taken (n ∙ z)) (c .refuse .ensures ∙ ap (λ (k : ℕ). unchanged (a .desks) (a .c) k) n)
-
-holder-place-requires : tie.Need-holder-place-requires
-holder-place-requires c κs = search needs
-
-event-of-requires : tie.Need-event-of-requires
-event-of-requires c κs = search needs
-
-on-channel-requires : tie.Need-on-channel-requires
-on-channel-requires c κs = search needs
-
-same-length : tie.Need-same-length
-same-length c = search needs
 
 returns-2 : tie.Need-returns-2
 unfolding lineIn
@@ -67,12 +46,5 @@ pub line-spec : {M : Type 1} → statement M
 line-spec =
     tie.close
     (tie.spec
-    desk-at-requires
-    judge-line-requires
-    refuse-requires
-    returns
-    holder-place-requires
-    event-of-requires
-    on-channel-requires
-    same-length
-    returns-2)
+    (λ c κs. search needs) (λ c κs. search needs) (λ c κs. search needs) returns (λ c κs. search needs)
+    (λ c κs. search needs) (λ c κs. search needs) (λ c. search needs) returns-2)

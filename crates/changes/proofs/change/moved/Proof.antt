@@ -10,15 +10,6 @@ use borrow.Author.Needs.{needs}
 use Rattle.changes.proofs.change.moved.Statement.{statement}
 use Rattle.changes.proofs.change.moved.Tie as tie
 
-listeners-requires : tie.Need-listeners-requires
-listeners-requires c κs = search needs
-
-desk-at-requires : tie.Need-desk-at-requires
-desk-at-requires c κs = search needs
-
-happens-requires : tie.Need-happens-requires
-happens-requires c κs = search needs
-
 returns : tie.Need-returns
 returns c =
     let st = c .before .before .before .before in
@@ -29,4 +20,4 @@ returns c =
     )
 
 pub moved-spec : {M : Type 1} → statement M
-moved-spec = tie.close (tie.spec listeners-requires desk-at-requires happens-requires returns)
+moved-spec = tie.close (tie.spec (λ c κs. search needs) (λ c κs. search needs) (λ c κs. search needs) returns)

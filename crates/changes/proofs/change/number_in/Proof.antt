@@ -5,12 +5,6 @@ use borrow.Author.Needs.{needs}
 use Rattle.changes.proofs.change.number_in.Statement.{statement}
 use Rattle.changes.proofs.change.number_in.Tie as tie
 
-enum-known-number : tie.Need-enum-known-number
-enum-known-number c = search needs
-
-new-requires : tie.Need-new-requires
-new-requires c κs = search needs
-
 enum-told : tie.Need-enum-told
 enum-told c = search needs
 
@@ -21,4 +15,4 @@ returns-2 : tie.Need-returns-2
 returns-2 c = rw (c .enum-told .given .1) refl
 
 pub number-in-spec : {M : Type 1} → statement M
-number-in-spec = tie.close (tie.spec enum-known-number new-requires enum-told returns returns-2)
+number-in-spec = tie.close (tie.spec (λ c. search needs) (λ c κs. search needs) enum-told returns returns-2)

@@ -17,15 +17,6 @@ use borrow.Author.Needs.{needs}
 use Rattle.changes.proofs.change.on_channel.Statement.{statement}
 use Rattle.changes.proofs.change.on_channel.Tie as tie
 
-moved-requires : tie.Need-moved-requires
-moved-requires c κs = search needs
-
-space-requires : tie.Need-space-requires
-space-requires c κs = search needs
-
-refuse-requires : tie.Need-refuse-requires
-refuse-requires c κs = search needs
-
 returns : tie.Need-returns
 unfolding onOne
 returns c =
@@ -44,9 +35,6 @@ put-requires c κs =
     let sends = c .before .before .before .before .moved .result .sends in
     omega (arith, n, space-length (st .args .desks) (delivered ch sends) (even-sends ch sends), c .before .if1 .left)
 
-same-length : tie.Need-same-length
-same-length c = search needs
-
 returns-2 : tie.Need-returns-2
 unfolding onOne
 returns-2 c =
@@ -64,10 +52,5 @@ pub on-channel-spec : {M : Type 1} → statement M
 on-channel-spec =
     tie.close
     (tie.spec
-    moved-requires
-    space-requires
-    refuse-requires
-    returns
-    put-requires
-    same-length
+    (λ c κs. search needs) (λ c κs. search needs) (λ c κs. search needs) returns put-requires (λ c. search needs)
     returns-2)

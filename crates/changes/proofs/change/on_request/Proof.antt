@@ -14,15 +14,6 @@ use borrow.Author.Needs.{needs}
 use Rattle.changes.proofs.change.on_request.Statement.{statement}
 use Rattle.changes.proofs.change.on_request.Tie as tie
 
-desk-at-requires : tie.Need-desk-at-requires
-desk-at-requires c κs = search needs
-
-judge-request-requires : tie.Need-judge-request-requires
-judge-request-requires c κs = search needs
-
-refuse-requires : tie.Need-refuse-requires
-refuse-requires c κs = search needs
-
 returns : tie.Need-returns
 unfolding requestOn
 returns c =
@@ -34,21 +25,6 @@ returns c =
     let f : Move = requestMove (a .desks) (a .n) (a .d) q (a .c) in
     let n : c .before .before .judge-request .result ≡ m = c .before .before .judge-request .ensures ∙ ap (λ (k : Desk). requestRefusal q (a .d) k (a .found) (a .c)) (c .before .before .before .desk-at .ensures) in
     judged-bad-in (a .desks) (a .c) f b m (λ z. c .before .if1 .taken (n ∙ z)) (c .refuse .ensures ∙ ap (λ (k : ℕ). unchanged (a .desks) (a .c) k) n)
-
-time-told-requires : tie.Need-time-told-requires
-time-told-requires c κs = search needs
-
-answered-requires : tie.Need-answered-requires
-answered-requires c κs = search needs
-
-ordered-requires : tie.Need-ordered-requires
-ordered-requires c κs = search needs
-
-on-channel-requires : tie.Need-on-channel-requires
-on-channel-requires c κs = search needs
-
-same-length : tie.Need-same-length
-same-length c = search needs
 
 returns-2 : tie.Need-returns-2
 unfolding requestOn
@@ -62,9 +38,6 @@ returns-2 c =
     let n : c .before .before .before .before .before .before .judge-request .result ≡ m = c .before .before .before .before .before .before .judge-request .ensures ∙ ap (λ (k : Desk). requestRefusal q (a .d) k (a .found) (a .c)) (c .before .before .before .before .before .before .before .desk-at .ensures) in
     judged-good-in (a .desks) (a .c) f b m (sym n ∙ c .before .before .before .before .before .if1 .left) (makes-by (a .desks) (a .c) (length b) (by-time (a .desks) (a .n) (a .d) q (a .c) (c .before .before .before .before .match .keys1)) (c .before .before .time-told .ensures))
 
-same-length-2 : tie.Need-same-length-2
-same-length-2 c = search needs
-
 returns-3 : tie.Need-returns-3
 unfolding requestOn
 returns-3 c =
@@ -76,9 +49,6 @@ returns-3 c =
     let f : Move = requestMove (a .desks) (a .n) (a .d) q (a .c) in
     let n : c .before .before .before .before .before .before .judge-request .result ≡ m = c .before .before .before .before .before .before .judge-request .ensures ∙ ap (λ (k : Desk). requestRefusal q (a .d) k (a .found) (a .c)) (c .before .before .before .before .before .before .before .desk-at .ensures) in
     judged-good-in (a .desks) (a .c) f b m (sym n ∙ c .before .before .before .before .before .if1 .left) (makes-by (a .desks) (a .c) (length b) (by-answer (a .desks) (a .n) (a .d) q (a .c) (c .before .before .before .before .match .keys2)) (c .before .before .answered .ensures))
-
-same-length-3 : tie.Need-same-length-3
-same-length-3 c = search needs
 
 returns-4 : tie.Need-returns-4
 unfolding requestOn
@@ -97,17 +67,6 @@ pub on-request-spec : {M : Type 1} → statement M
 on-request-spec =
     tie.close
     (tie.spec
-    desk-at-requires
-    judge-request-requires
-    refuse-requires
-    returns
-    time-told-requires
-    answered-requires
-    ordered-requires
-    on-channel-requires
-    same-length
-    returns-2
-    same-length-2
-    returns-3
-    same-length-3
-    returns-4)
+    (λ c κs. search needs) (λ c κs. search needs) (λ c κs. search needs) returns (λ c κs. search needs)
+    (λ c κs. search needs) (λ c κs. search needs) (λ c κs. search needs) (λ c. search needs) returns-2
+    (λ c. search needs) returns-3 (λ c. search needs) returns-4)

@@ -19,15 +19,6 @@ use borrow.Author.Needs.{needs}
 use Rattle.changes.proofs.change.time_told.Statement.{statement}
 use Rattle.changes.proofs.change.time_told.Tie as tie
 
-only-requires : tie.Need-only-requires
-only-requires c κs = search needs
-
-space-to-requires : tie.Need-space-to-requires
-space-to-requires c κs = search needs
-
-refuse-requires : tie.Need-refuse-requires
-refuse-requires c κs = search needs
-
 returns : tie.Need-returns
 returns c =
     let st = c .before .before .before .before .before in
@@ -40,18 +31,6 @@ put-to-requires c κs =
     let st = c .before .before .before .before .before in
     let v = delivery (c .before .before .before .only .result) OperationRequest ∷ [] in
     omega (arith, c .before .before .space-to .ensures .0, space-length (st .args .desks) v (λ k. refl, tt), c .before .if1 .left)
-
-desk-at-requires : tie.Need-desk-at-requires
-desk-at-requires c κs = search needs
-
-time-told-requires : tie.Need-time-told-requires
-time-told-requires c κs = search needs
-
-linked-requires : tie.Need-linked-requires
-linked-requires c κs = search needs
-
-same-length : tie.Need-same-length
-same-length c = search needs
 
 returns-2 : tie.Need-returns-2
 returns-2 c =
@@ -67,13 +46,5 @@ pub time-told-spec : {M : Type 1} → statement M
 time-told-spec =
     tie.close
     (tie.spec
-    only-requires
-    space-to-requires
-    refuse-requires
-    returns
-    put-to-requires
-    desk-at-requires
-    time-told-requires
-    linked-requires
-    same-length
-    returns-2)
+    (λ c κs. search needs) (λ c κs. search needs) (λ c κs. search needs) returns put-to-requires
+    (λ c κs. search needs) (λ c κs. search needs) (λ c κs. search needs) (λ c. search needs) returns-2)

@@ -5,9 +5,6 @@ use borrow.Author.Needs.{needs}
 use Rattle.changes.proofs.judge.is_caller.Statement.{statement}
 use Rattle.changes.proofs.judge.is_caller.Tie as tie
 
-enum-known-number : tie.Need-enum-known-number
-enum-known-number c = search needs
-
 enum-told : tie.Need-enum-told
 enum-told c = search needs
 
@@ -18,4 +15,4 @@ returns-2 : tie.Need-returns-2
 returns-2 c = rw (c .enum-told .given .1) refl
 
 pub is-caller-spec : {M : Type 1} → statement M
-is-caller-spec = tie.close (tie.spec enum-known-number enum-told returns returns-2)
+is-caller-spec = tie.close (tie.spec (λ c. search needs) enum-told returns returns-2)

@@ -9,26 +9,17 @@ use borrow.Author.Needs.{needs}
 use Rattle.changes.proofs.judge.judge_line.Statement.{statement}
 use Rattle.changes.proofs.judge.judge_line.Tie as tie
 
-judge-press-requires : tie.Need-judge-press-requires
-judge-press-requires c κs = search needs
-
 returns : tie.Need-returns
 returns c =
     let a = c .before .before .before .args in
     let t : (isKind 2 (a .x) || isKind 3 (a .x)) ≡ true = rw (eq-eqb _ _ (c .before .if1 .taken)) refl in
     c .judge-press .ensures ∙ ap (λ (b : Bool). cond b (pressRefusal (a .x) (a .there) (a .phase) (a .found) (a .c)) (mobileRefusal (a .x) (a .found) (a .c))) (sym t)
 
-judge-press-requires-2 : tie.Need-judge-press-requires-2
-judge-press-requires-2 c κs = search needs
-
 returns-2 : tie.Need-returns-2
 returns-2 c =
     let a = c .before .before .before .before .before .args in
     let t : (isKind 2 (a .x) || isKind 3 (a .x)) ≡ true = rw (ne-eqb _ _ (c .before .before .before .if1 .left), eq-eqb _ _ (c .before .if2 .taken)) refl in
     c .judge-press2 .ensures ∙ ap (λ (b : Bool). cond b (pressRefusal (a .x) (a .there) (a .phase) (a .found) (a .c)) (mobileRefusal (a .x) (a .found) (a .c))) (sym t)
-
-judge-mobile-requires : tie.Need-judge-mobile-requires
-judge-mobile-requires c κs = search needs
 
 returns-3 : tie.Need-returns-3
 returns-3 c =
@@ -40,9 +31,4 @@ pub judge-line-spec : {M : Type 1} → statement M
 judge-line-spec =
     tie.close
     (tie.spec
-    judge-press-requires
-    returns
-    judge-press-requires-2
-    returns-2
-    judge-mobile-requires
-    returns-3)
+    (λ c κs. search needs) returns (λ c κs. search needs) returns-2 (λ c κs. search needs) returns-3)

@@ -15,23 +15,14 @@ returns-2 c = simp (not-false (c .before .before .args .there) (c .before .if1 .
 returns-3 : tie.Need-returns-3
 returns-3 c = simp (not-false (c .before .before .before .args .there) (c .before .before .if1 .left), eq-eqb _ _ (c .before .if2 .left), not-true (c .before .before .before .args .found) (c .if3 .taken)) refl
 
-is-in-requires : tie.Need-is-in-requires
-is-in-requires c κs = search needs
-
 returns-4 : tie.Need-returns-4
 returns-4 c = simp (not-false (c .before .before .before .before .before .args .there) (c .before .before .before .before .if1 .left), eq-eqb _ _ (c .before .before .before .if2 .left), not-false (c .before .before .before .before .before .args .found) (c .before .before .if3 .left), sym (c .before .is-in .ensures) ∙ not-true _ (c .if4 .taken)) refl
-
-held-by-requires : tie.Need-held-by-requires
-held-by-requires c κs = search needs
 
 returns-5 : tie.Need-returns-5
 returns-5 c = simp (not-false (c .before .before .before .before .before .before .before .args .there) (c .before .before .before .before .before .before .if1 .left), eq-eqb _ _ (c .before .before .before .before .before .if2 .left), not-false (c .before .before .before .before .before .before .before .args .found) (c .before .before .before .before .if3 .left), sym (c .before .before .before .is-in .ensures) ∙ not-false _ (c .before .before .if4 .left), sym (c .before .held-by .ensures) ∙ not-true _ (c .if5 .taken)) refl
 
 returns-6 : tie.Need-returns-6
 returns-6 c = simp (not-false (c .before .before .before .before .before .before .before .before .before .args .there) (c .before .before .before .before .before .before .before .before .if1 .left), eq-eqb _ _ (c .before .before .before .before .before .before .before .if2 .left), not-false (c .before .before .before .before .before .before .before .before .before .args .found) (c .before .before .before .before .before .before .if3 .left), sym (c .before .before .before .before .before .is-in .ensures) ∙ not-false _ (c .before .before .before .before .if4 .left), sym (c .before .before .before .held-by .ensures) ∙ not-false _ (c .before .before .if5 .left), ne-eqb _ _ (c .if6 .taken)) refl
-
-is-again-requires : tie.Need-is-again-requires
-is-again-requires c κs = search needs
 
 returns-7 : tie.Need-returns-7
 returns-7 c = simp (not-false (c .before .before .before .before .before .before .before .before .before .before .before .args .there) (c .before .before .before .before .before .before .before .before .before .before .if1 .left), eq-eqb _ _ (c .before .before .before .before .before .before .before .before .before .if2 .left), not-false (c .before .before .before .before .before .before .before .before .before .before .before .args .found) (c .before .before .before .before .before .before .before .before .if3 .left), sym (c .before .before .before .before .before .before .before .is-in .ensures) ∙ not-false _ (c .before .before .before .before .before .before .if4 .left), sym (c .before .before .before .before .before .held-by .ensures) ∙ not-false _ (c .before .before .before .before .if5 .left), eq-eqb _ _ (c .before .before .if6 .left), sym (c .before .is-again .ensures) ∙ c .if7 .taken) refl
@@ -43,14 +34,5 @@ pub judge-press-spec : {M : Type 1} → statement M
 judge-press-spec =
     tie.close
     (tie.spec
-    returns
-    returns-2
-    returns-3
-    is-in-requires
-    returns-4
-    held-by-requires
-    returns-5
-    returns-6
-    is-again-requires
-    returns-7
-    returns-8)
+    returns returns-2 returns-3 (λ c κs. search needs) returns-4 (λ c κs. search needs) returns-5 returns-6
+    (λ c κs. search needs) returns-7 returns-8)

@@ -9,9 +9,6 @@ use Rattle.changes.proofs.judge.judge_request.Tie as tie
 returns : tie.Need-returns
 returns c = simp (ne-eqb _ _ (c .if1 .taken)) refl
 
-phase-of-requires : tie.Need-phase-of-requires
-phase-of-requires c κs = search needs
-
 returns-2 : tie.Need-returns-2
 returns-2 c = simp (eq-eqb _ _ (c .before .before .before .if1 .left), sym (c .before .before .phase-of .ensures), ne-eqb _ _ (c .if2 .taken)) refl
 
@@ -23,9 +20,6 @@ returns-4 c = rw (eq-eqb _ _ (c .before .before .before .before .before .before 
 
 returns-5 : tie.Need-returns-5
 returns-5 c = rw (eq-eqb _ _ (c .before .before .before .before .before .before .before .before .if1 .left), eq-eqb _ _ (c .before .before .before .before .before .if2 .left ∙ c .before .before .before .before .before .before .before .phase-of .ensures), ne-eqb _ _ (c .before .before .before .if3 .left), ne-eqb _ _ (c .before .if4 .left), not-true (c .before .before .before .before .before .before .before .before .before .before .args .found) (c .if5 .taken)) refl
-
-is-in-requires : tie.Need-is-in-requires
-is-in-requires c κs = search needs
 
 returns-6 : tie.Need-returns-6
 returns-6 c = rw (eq-eqb _ _ (c .before .before .before .before .before .before .before .before .before .before .if1 .left), eq-eqb _ _ (c .before .before .before .before .before .before .before .if2 .left ∙ c .before .before .before .before .before .before .before .before .before .phase-of .ensures), ne-eqb _ _ (c .before .before .before .before .before .if3 .left), ne-eqb _ _ (c .before .before .before .if4 .left), not-false (c .before .before .before .before .before .before .before .before .before .before .before .before .args .found) (c .before .before .if5 .left), sym (c .before .is-in .ensures) ∙ not-true _ (c .if6 .taken)) refl
@@ -40,13 +34,5 @@ pub judge-request-spec : {M : Type 1} → statement M
 judge-request-spec =
     tie.close
     (tie.spec
-    returns
-    phase-of-requires
-    returns-2
-    returns-3
-    returns-4
-    returns-5
-    is-in-requires
-    returns-6
-    returns-7
+    returns (λ c κs. search needs) returns-2 returns-3 returns-4 returns-5 (λ c κs. search needs) returns-6 returns-7
     returns-8)

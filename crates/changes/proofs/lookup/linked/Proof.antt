@@ -12,18 +12,6 @@ use borrow.Author.Needs.{needs}
 use Rattle.changes.proofs.lookup.linked.Statement.{statement}
 use Rattle.changes.proofs.lookup.linked.Tie as tie
 
-mul-desk : tie.Need-mul-desk
-mul-desk c = search needs
-
-array-copy-out-desk : tie.Need-array-copy-out-desk
-array-copy-out-desk c = search needs
-
-mul-after : tie.Need-mul-after
-mul-after c = search needs
-
-array-set-from-after : tie.Need-array-set-from-after
-array-set-from-after c = search needs
-
 returns : tie.Need-returns
 returns c =
     let st = c .before .before .before in
@@ -39,4 +27,5 @@ returns-2 c =
 pub linked-spec : {M : Type 1} → statement M
 linked-spec =
     tie.close
-    (tie.spec mul-desk array-copy-out-desk mul-after array-set-from-after returns returns-2)
+    (tie.spec
+    (λ c. search needs) (λ c. search needs) (λ c. search needs) (λ c. search needs) returns returns-2)

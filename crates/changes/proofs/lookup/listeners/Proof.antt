@@ -14,39 +14,6 @@ use Rattle.changes.proofs.lookup.listeners.Tie as tie
 abbrev none : Desk
 none = record { code = 0; number = record { digits = 0 }; link = record { phase = 0 } }
 
-array-copy-out-place-if : tie.Need-array-copy-out-place-if
-array-copy-out-place-if c = search needs
-
-place-if-requires : tie.Need-place-if-requires
-place-if-requires c κs = search needs
-
-array-copy-out-place-if-2 : tie.Need-array-copy-out-place-if-2
-array-copy-out-place-if-2 c = search needs
-
-place-if-requires-2 : tie.Need-place-if-requires-2
-place-if-requires-2 c κs = search needs
-
-array-copy-out-place-if-3 : tie.Need-array-copy-out-place-if-3
-array-copy-out-place-if-3 c = search needs
-
-place-if-requires-3 : tie.Need-place-if-requires-3
-place-if-requires-3 c κs = search needs
-
-array-copy-out-place-if-4 : tie.Need-array-copy-out-place-if-4
-array-copy-out-place-if-4 c = search needs
-
-place-if-requires-4 : tie.Need-place-if-requires-4
-place-if-requires-4 c κs = search needs
-
-add-result : tie.Need-add-result
-add-result c = search needs
-
-add-result-2 : tie.Need-add-result-2
-add-result-2 c = search needs
-
-add-result-3 : tie.Need-add-result-3
-add-result-3 c = search needs
-
 returns : tie.Need-returns
 returns c =
     let st = c .before .before .before .before .before .before .before .before in
@@ -60,15 +27,6 @@ pub listeners-spec : {M : Type 1} → statement M
 listeners-spec =
     tie.close
     (tie.spec
-    array-copy-out-place-if
-    place-if-requires
-    array-copy-out-place-if-2
-    place-if-requires-2
-    array-copy-out-place-if-3
-    place-if-requires-3
-    array-copy-out-place-if-4
-    place-if-requires-4
-    add-result
-    add-result-2
-    add-result-3
-    returns)
+    (λ c. search needs) (λ c κs. search needs) (λ c. search needs) (λ c κs. search needs) (λ c. search needs)
+    (λ c κs. search needs) (λ c. search needs) (λ c κs. search needs) (λ c. search needs) (λ c. search needs)
+    (λ c. search needs) returns)

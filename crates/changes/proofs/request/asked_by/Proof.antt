@@ -5,65 +5,8 @@ use borrow.Author.Needs.{needs}
 use Rattle.changes.proofs.request.asked_by.Statement.{statement}
 use Rattle.changes.proofs.request.asked_by.Tie as tie
 
-enum-known-message : tie.Need-enum-known-message
-enum-known-message c = search needs
-
-asks-requires : tie.Need-asks-requires
-asks-requires c κs = search needs
-
-enum-known-message-2 : tie.Need-enum-known-message-2
-enum-known-message-2 c = search needs
-
-asks-requires-2 : tie.Need-asks-requires-2
-asks-requires-2 c κs = search needs
-
 enum-told : tie.Need-enum-told
 enum-told c = search needs
-
-asks-nothing-requires : tie.Need-asks-nothing-requires
-asks-nothing-requires c κs = search needs
-
-enum-known-message-3 : tie.Need-enum-known-message-3
-enum-known-message-3 c = search needs
-
-asks-nothing-requires-2 : tie.Need-asks-nothing-requires-2
-asks-nothing-requires-2 c κs = search needs
-
-enum-told-2 : tie.Need-enum-told-2
-enum-told-2 c = search needs
-
-asks-nothing-requires-3 : tie.Need-asks-nothing-requires-3
-asks-nothing-requires-3 c κs = search needs
-
-enum-known-message-4 : tie.Need-enum-known-message-4
-enum-known-message-4 c = search needs
-
-asks-nothing-requires-4 : tie.Need-asks-nothing-requires-4
-asks-nothing-requires-4 c κs = search needs
-
-enum-known-message-5 : tie.Need-enum-known-message-5
-enum-known-message-5 c = search needs
-
-asks-nothing-requires-5 : tie.Need-asks-nothing-requires-5
-asks-nothing-requires-5 c κs = search needs
-
-enum-known-message-6 : tie.Need-enum-known-message-6
-enum-known-message-6 c = search needs
-
-asks-requires-3 : tie.Need-asks-requires-3
-asks-requires-3 c κs = search needs
-
-enum-known-message-7 : tie.Need-enum-known-message-7
-enum-known-message-7 c = search needs
-
-asks-nothing-requires-6 : tie.Need-asks-nothing-requires-6
-asks-nothing-requires-6 c κs = search needs
-
-enum-known-message-8 : tie.Need-enum-known-message-8
-enum-known-message-8 c = search needs
-
-asks-nothing-requires-7 : tie.Need-asks-nothing-requires-7
-asks-nothing-requires-7 c κs = search needs
 
 returns : tie.Need-returns
 returns c = rw (c .before .before .message .given .1) (c .asks .ensures)
@@ -99,33 +42,8 @@ pub asked-by-spec : {M : Type 1} → statement M
 asked-by-spec =
     tie.close
     (tie.spec
-    enum-known-message
-    asks-requires
-    enum-known-message-2
-    asks-requires-2
-    enum-told
-    asks-nothing-requires
-    enum-known-message-3
-    asks-nothing-requires-2
-    enum-told-2
-    asks-nothing-requires-3
-    enum-known-message-4
-    asks-nothing-requires-4
-    enum-known-message-5
-    asks-nothing-requires-5
-    enum-known-message-6
-    asks-requires-3
-    enum-known-message-7
-    asks-nothing-requires-6
-    enum-known-message-8
-    asks-nothing-requires-7
-    returns
-    returns-2
-    returns-3
-    returns-4
-    returns-5
-    returns-6
-    returns-7
-    returns-8
-    returns-9
-    returns-10)
+    (λ c. search needs) (λ c κs. search needs) (λ c. search needs) (λ c κs. search needs) enum-told
+    (λ c κs. search needs) (λ c. search needs) (λ c κs. search needs) (λ c. search needs) (λ c κs. search needs)
+    (λ c. search needs) (λ c κs. search needs) (λ c. search needs) (λ c κs. search needs) (λ c. search needs)
+    (λ c κs. search needs) (λ c. search needs) (λ c κs. search needs) (λ c. search needs) (λ c κs. search needs)
+    returns returns-2 returns-3 returns-4 returns-5 returns-6 returns-7 returns-8 returns-9 returns-10)

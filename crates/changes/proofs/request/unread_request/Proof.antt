@@ -7,21 +7,6 @@ use borrow.Author.Needs.{needs}
 use Rattle.changes.proofs.request.unread_request.Statement.{statement}
 use Rattle.changes.proofs.request.unread_request.Tie as tie
 
-enum-known-reading : tie.Need-enum-known-reading
-enum-known-reading c = search needs
-
-asks-nothing-requires : tie.Need-asks-nothing-requires
-asks-nothing-requires c κs = search needs
-
-enum-known-reading-2 : tie.Need-enum-known-reading-2
-enum-known-reading-2 c = search needs
-
-unread-requires : tie.Need-unread-requires
-unread-requires c κs = search needs
-
-asks-nothing-requires-2 : tie.Need-asks-nothing-requires-2
-asks-nothing-requires-2 c κs = search needs
-
 returns : tie.Need-returns
 returns c = rw (c .before .before .reading .given .1) (c .asks-nothing .ensures)
 
@@ -32,10 +17,5 @@ pub unread-request-spec : {M : Type 1} → statement M
 unread-request-spec =
     tie.close
     (tie.spec
-    enum-known-reading
-    asks-nothing-requires
-    enum-known-reading-2
-    unread-requires
-    asks-nothing-requires-2
-    returns
-    returns-2)
+    (λ c. search needs) (λ c κs. search needs) (λ c. search needs) (λ c κs. search needs) (λ c κs. search needs)
+    returns returns-2)

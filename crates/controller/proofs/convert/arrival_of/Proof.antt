@@ -8,9 +8,6 @@ use Rattle.controller.proofs.convert.arrival_of.Tie as tie
 enum-told : tie.Need-enum-told
 enum-told c = search needs
 
-enum-known-arrival : tie.Need-enum-known-arrival
-enum-known-arrival c = search needs
-
 returns : tie.Need-returns
 returns c = simp (c .enum-told .given .1) refl
 
@@ -18,4 +15,4 @@ returns-2 : tie.Need-returns-2
 returns-2 c = simp (c .before .arrival .given .1) refl
 
 pub arrival-of-spec : {M : Type 1} → statement M
-arrival-of-spec = tie.close (tie.spec enum-told enum-known-arrival returns returns-2)
+arrival-of-spec = tie.close (tie.spec enum-told (λ c. search needs) returns returns-2)

@@ -8,9 +8,6 @@ use Rattle.controller.proofs.convert.call_of.Tie as tie
 enum-told : tie.Need-enum-told
 enum-told c = search needs
 
-enum-known-call : tie.Need-enum-known-call
-enum-known-call c = search needs
-
 returns : tie.Need-returns
 returns c = simp (c .enum-told .given .1) refl
 
@@ -18,4 +15,4 @@ returns-2 : tie.Need-returns-2
 returns-2 c = simp (c .before .call .given .1) refl
 
 pub call-of-spec : {M : Type 1} → statement M
-call-of-spec = tie.close (tie.spec enum-told enum-known-call returns returns-2)
+call-of-spec = tie.close (tie.spec enum-told (λ c. search needs) returns returns-2)

@@ -16,37 +16,10 @@ Inv-loop plain channels₀ i₀ channels i = Mapped channelIn plain i channels �
 abbrev μ-loop : tie.MeasureT-loop
 μ-loop plain channels₀ i₀ channels i = 32 - i
 
-array-copy-out-first : tie.Need-array-copy-out-first Inv-loop μ-loop
-array-copy-out-first c = search needs
-
-channel-in-requires : tie.Need-channel-in-requires Inv-loop μ-loop
-channel-in-requires c κs = search needs
-
 loop-holds : tie.Need-loop-holds Inv-loop μ-loop
 loop-holds c =
     let n : length (c .before .before .args .t1) ≡ 32 = search needs in
     (map-start channelIn _ _ (sym n), omega arith)
-
-mul-p : tie.Need-mul-p Inv-loop μ-loop
-mul-p c = search needs
-
-array-copy-out-p : tie.Need-array-copy-out-p Inv-loop μ-loop
-array-copy-out-p c = search needs
-
-channel-in-requires-2 : tie.Need-channel-in-requires-2 Inv-loop μ-loop
-channel-in-requires-2 c κs = search needs
-
-mul-channels : tie.Need-mul-channels Inv-loop μ-loop
-mul-channels c = search needs
-
-array-set-from-channels : tie.Need-array-set-from-channels Inv-loop μ-loop
-array-set-from-channels c = search needs
-
-add-i : tie.Need-add-i Inv-loop μ-loop
-add-i c = search needs
-
-loop-less : tie.Need-loop-less Inv-loop μ-loop
-loop-less c = search needs
 
 loop-again : tie.Need-loop-again Inv-loop μ-loop
 loop-again c =
@@ -64,17 +37,6 @@ pub channels-in-spec : {M : Type 1} → statement M
 channels-in-spec =
     tie.close
     (tie.spec
-    Inv-loop
-    μ-loop
-    array-copy-out-first
-    channel-in-requires
-    loop-holds
-    mul-p
-    array-copy-out-p
-    channel-in-requires-2
-    mul-channels
-    array-set-from-channels
-    add-i
-    loop-less
-    loop-again
+    Inv-loop μ-loop (λ c. search needs) (λ c κs. search needs) loop-holds (λ c. search needs) (λ c. search needs)
+    (λ c κs. search needs) (λ c. search needs) (λ c. search needs) (λ c. search needs) (λ c. search needs) loop-again
     returns)

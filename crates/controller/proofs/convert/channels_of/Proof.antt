@@ -16,37 +16,10 @@ Inv-loop channels plain₀ i₀ plain i = Mapped channelOf channels i plain × (
 abbrev μ-loop : tie.MeasureT-loop
 μ-loop channels plain₀ i₀ plain i = 32 - i
 
-array-copy-out-first : tie.Need-array-copy-out-first Inv-loop μ-loop
-array-copy-out-first c = search needs
-
-channel-of-requires : tie.Need-channel-of-requires Inv-loop μ-loop
-channel-of-requires c κs = search needs
-
 loop-holds : tie.Need-loop-holds Inv-loop μ-loop
 loop-holds c =
     let n : length (c .before .before .args .t1) ≡ 32 = search needs in
     (map-start channelOf _ _ (sym n), omega arith)
-
-mul-c : tie.Need-mul-c Inv-loop μ-loop
-mul-c c = search needs
-
-array-copy-out-c : tie.Need-array-copy-out-c Inv-loop μ-loop
-array-copy-out-c c = search needs
-
-channel-of-requires-2 : tie.Need-channel-of-requires-2 Inv-loop μ-loop
-channel-of-requires-2 c κs = search needs
-
-mul-plain : tie.Need-mul-plain Inv-loop μ-loop
-mul-plain c = search needs
-
-array-set-from-plain : tie.Need-array-set-from-plain Inv-loop μ-loop
-array-set-from-plain c = search needs
-
-add-i : tie.Need-add-i Inv-loop μ-loop
-add-i c = search needs
-
-loop-less : tie.Need-loop-less Inv-loop μ-loop
-loop-less c = search needs
 
 loop-again : tie.Need-loop-again Inv-loop μ-loop
 loop-again c =
@@ -64,17 +37,6 @@ pub channels-of-spec : {M : Type 1} → statement M
 channels-of-spec =
     tie.close
     (tie.spec
-    Inv-loop
-    μ-loop
-    array-copy-out-first
-    channel-of-requires
-    loop-holds
-    mul-c
-    array-copy-out-c
-    channel-of-requires-2
-    mul-plain
-    array-set-from-plain
-    add-i
-    loop-less
-    loop-again
+    Inv-loop μ-loop (λ c. search needs) (λ c κs. search needs) loop-holds (λ c. search needs) (λ c. search needs)
+    (λ c κs. search needs) (λ c. search needs) (λ c. search needs) (λ c. search needs) (λ c. search needs) loop-again
     returns)

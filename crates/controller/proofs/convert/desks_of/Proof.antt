@@ -16,37 +16,10 @@ Inv-loop desks plain₀ i₀ plain i = Mapped deskOf desks i plain × (i ≤ 4)
 abbrev μ-loop : tie.MeasureT-loop
 μ-loop desks plain₀ i₀ plain i = 4 - i
 
-array-copy-out-first : tie.Need-array-copy-out-first Inv-loop μ-loop
-array-copy-out-first c = search needs
-
-desk-of-requires : tie.Need-desk-of-requires Inv-loop μ-loop
-desk-of-requires c κs = search needs
-
 loop-holds : tie.Need-loop-holds Inv-loop μ-loop
 loop-holds c =
     let n : length (c .before .before .args .t1) ≡ 4 = search needs in
     (map-start deskOf _ _ (sym n), omega arith)
-
-mul-d : tie.Need-mul-d Inv-loop μ-loop
-mul-d c = search needs
-
-array-copy-out-d : tie.Need-array-copy-out-d Inv-loop μ-loop
-array-copy-out-d c = search needs
-
-desk-of-requires-2 : tie.Need-desk-of-requires-2 Inv-loop μ-loop
-desk-of-requires-2 c κs = search needs
-
-mul-plain : tie.Need-mul-plain Inv-loop μ-loop
-mul-plain c = search needs
-
-array-set-from-plain : tie.Need-array-set-from-plain Inv-loop μ-loop
-array-set-from-plain c = search needs
-
-add-i : tie.Need-add-i Inv-loop μ-loop
-add-i c = search needs
-
-loop-less : tie.Need-loop-less Inv-loop μ-loop
-loop-less c = search needs
 
 loop-again : tie.Need-loop-again Inv-loop μ-loop
 loop-again c =
@@ -64,17 +37,6 @@ pub desks-of-spec : {M : Type 1} → statement M
 desks-of-spec =
     tie.close
     (tie.spec
-    Inv-loop
-    μ-loop
-    array-copy-out-first
-    desk-of-requires
-    loop-holds
-    mul-d
-    array-copy-out-d
-    desk-of-requires-2
-    mul-plain
-    array-set-from-plain
-    add-i
-    loop-less
-    loop-again
+    Inv-loop μ-loop (λ c. search needs) (λ c κs. search needs) loop-holds (λ c. search needs) (λ c. search needs)
+    (λ c κs. search needs) (λ c. search needs) (λ c. search needs) (λ c. search needs) (λ c. search needs) loop-again
     returns)

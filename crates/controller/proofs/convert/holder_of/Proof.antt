@@ -8,9 +8,6 @@ use Rattle.controller.proofs.convert.holder_of.Tie as tie
 enum-told : tie.Need-enum-told
 enum-told c = search needs
 
-enum-known-holder : tie.Need-enum-known-holder
-enum-known-holder c = search needs
-
 returns : tie.Need-returns
 returns c = simp (c .enum-told .given .1) refl
 
@@ -18,4 +15,4 @@ returns-2 : tie.Need-returns-2
 returns-2 c = simp (c .before .holder .given .1) refl
 
 pub holder-of-spec : {M : Type 1} → statement M
-holder-of-spec = tie.close (tie.spec enum-told enum-known-holder returns returns-2)
+holder-of-spec = tie.close (tie.spec enum-told (λ c. search needs) returns returns-2)

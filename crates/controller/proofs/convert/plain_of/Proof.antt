@@ -5,17 +5,8 @@ use borrow.Author.Needs.{needs}
 use Rattle.controller.proofs.convert.plain_of.Statement.{statement}
 use Rattle.controller.proofs.convert.plain_of.Tie as tie
 
-channels-of-requires : tie.Need-channels-of-requires
-channels-of-requires c κs = search needs
-
-desks-of-requires : tie.Need-desks-of-requires
-desks-of-requires c κs = search needs
-
-flag-requires : tie.Need-flag-requires
-flag-requires c κs = search needs
-
 returns : tie.Need-returns
 returns c = simp (c .flag .ensures, c .before .before .before .channels-of .ensures, c .before .desks-of .ensures) refl
 
 pub plain-of-spec : {M : Type 1} → statement M
-plain-of-spec = tie.close (tie.spec channels-of-requires desks-of-requires flag-requires returns)
+plain-of-spec = tie.close (tie.spec (λ c κs. search needs) (λ c κs. search needs) (λ c κs. search needs) returns)

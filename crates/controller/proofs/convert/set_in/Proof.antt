@@ -5,14 +5,8 @@ use borrow.Author.Needs.{needs}
 use Rattle.controller.proofs.convert.set_in.Statement.{statement}
 use Rattle.controller.proofs.convert.set_in.Tie as tie
 
-channels-in-requires : tie.Need-channels-in-requires
-channels-in-requires c κs = search needs
-
-desks-in-requires : tie.Need-desks-in-requires
-desks-in-requires c κs = search needs
-
 returns : tie.Need-returns
 returns c = simp (c .before .before .before .channels-in .ensures, c .before .desks-in .ensures) refl
 
 pub set-in-spec : {M : Type 1} → statement M
-set-in-spec = tie.close (tie.spec channels-in-requires desks-in-requires returns)
+set-in-spec = tie.close (tie.spec (λ c κs. search needs) (λ c κs. search needs) returns)

@@ -17,17 +17,8 @@ use borrow.Author.Needs.{needs}
 use Rattle.controller.proofs.exports.step_plain.Statement.{statement}
 use Rattle.controller.proofs.exports.step_plain.Tie as tie
 
-set-in-requires : tie.Need-set-in-requires
-set-in-requires c κs = search needs
-
-step-requires : tie.Need-step-requires
-step-requires c κs = search needs
-
 abbrev kept : PlainSet → Answer → Kept
 kept p a = record { set = cond (eqb (a .refusal) 0) (plainOf (a .set)) p; count = a .count; refusal = a .refusal }
-
-same-length : tie.Need-same-length
-same-length c = search needs
 
 returns : tie.Need-returns
 returns c =
@@ -42,12 +33,6 @@ returns c =
           ∙ ap (kept p) (f .0 ∙ ap (λ (s : LineSet). answerOf (stepOf s e (length b))) i),
       f .1 ∙ ap (λ (s : LineSet). over (stepOf s e (length b) .bytes) b) i,
     )
-
-plain-of-requires : tie.Need-plain-of-requires
-plain-of-requires c κs = search needs
-
-same-length-2 : tie.Need-same-length-2
-same-length-2 c = search needs
 
 returns-2 : tie.Need-returns-2
 returns-2 c =
@@ -66,4 +51,7 @@ returns-2 c =
 
 pub step-plain-spec : {M : Type 1} → statement M
 step-plain-spec =
-    tie.close (tie.spec set-in-requires step-requires same-length returns plain-of-requires same-length-2 returns-2)
+    tie.close
+    (tie.spec
+    (λ c κs. search needs) (λ c κs. search needs) (λ c. search needs) returns (λ c κs. search needs)
+    (λ c. search needs) returns-2)

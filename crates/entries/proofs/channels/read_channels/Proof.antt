@@ -32,32 +32,11 @@ Inv-loop s n desks all channels₀ low₀ at₀ i₀ channels low at i =
 abbrev μ-loop : tie.MeasureT-loop
 μ-loop s n desks all channels₀ low₀ at₀ i₀ channels low at i = n - i
 
-first-desks-requires : tie.Need-first-desks-requires Inv-loop μ-loop
-first-desks-requires c κs = search needs
-
-new-requires : tie.Need-new-requires Inv-loop μ-loop
-new-requires c κs = search needs
-
 loop-holds : tie.Need-loop-holds Inv-loop μ-loop
 loop-holds c =
     let st = c .before .before .before in
     let h : length (channelsIn (st .args .n) (st .args .s .now)) ≤ 32 = rw length-channels (search needs) in
     (search needs, search needs, search needs, rw sub-zero, rw (sub-zero, c .new .ensures) (filled-sets 32 noChannel (channelsIn (st .args .n) (st .args .s .now)) h))
-
-shared-slice-read-code : tie.Need-shared-slice-read-code Inv-loop μ-loop
-shared-slice-read-code c = search needs
-
-add-mask : tie.Need-add-mask Inv-loop μ-loop
-add-mask c = search needs
-
-shared-slice-read-mask : tie.Need-shared-slice-read-mask Inv-loop μ-loop
-shared-slice-read-mask c = search needs
-
-is-channel-requires : tie.Need-is-channel-requires Inv-loop μ-loop
-is-channel-requires c κs = search needs
-
-no-channels-requires : tie.Need-no-channels-requires Inv-loop μ-loop
-no-channels-requires c κs = search needs
 
 returns : tie.Need-returns Inv-loop μ-loop
 unfolding channelsRead
@@ -69,30 +48,12 @@ returns c =
     let e : channelsOk (st .args .n) 0 (st .args .desks) s ≡ false = l .inv .3 ∙ channels-ok-at (st .args .n) (l .i) (search needs) s (l .at) (l .low) (st .args .desks) ∙ rw t in
     rw e (c .no-channels .ensures)
 
-new-requires-2 : tie.Need-new-requires-2 Inv-loop μ-loop
-new-requires-2 c κs = search needs
-
-mul-channels : tie.Need-mul-channels Inv-loop μ-loop
-mul-channels c = search needs
-
-array-set-from-channels : tie.Need-array-set-from-channels Inv-loop μ-loop
-array-set-from-channels c = search needs
-
 add-low : tie.Need-add-low Inv-loop μ-loop
 add-low c =
     let s = c .before .before .before .before .before .before .before .before .before .before .args .s .now in
     let l = c .before .before .before .before .before .before .loop in
     let a = c .before .before .before .before .before .before .before .before .first-desks .result in
     omega (arith, code-low (l .low) (getD s (l .at) 0) a (getD s (l .at + 1) 0) (sym (c .before .before .is-channel .ensures) ∙ not-false _ (c .before .if1 .left)))
-
-add-at : tie.Need-add-at Inv-loop μ-loop
-add-at c = search needs
-
-add-i : tie.Need-add-i Inv-loop μ-loop
-add-i c = search needs
-
-loop-less : tie.Need-loop-less Inv-loop μ-loop
-loop-less c = search needs
 
 loop-again : tie.Need-loop-again Inv-loop μ-loop
 loop-again c =
@@ -121,23 +82,7 @@ pub read-channels-spec : {M : Type 1} → statement M
 read-channels-spec =
     tie.close
     (tie.spec
-    Inv-loop
-    μ-loop
-    first-desks-requires
-    new-requires
-    loop-holds
-    shared-slice-read-code
-    add-mask
-    shared-slice-read-mask
-    is-channel-requires
-    no-channels-requires
-    returns
-    new-requires-2
-    mul-channels
-    array-set-from-channels
-    add-low
-    add-at
-    add-i
-    loop-less
-    loop-again
-    returns-2)
+    Inv-loop μ-loop (λ c κs. search needs) (λ c κs. search needs) loop-holds (λ c. search needs) (λ c. search needs)
+    (λ c. search needs) (λ c κs. search needs) (λ c κs. search needs) returns (λ c κs. search needs)
+    (λ c. search needs) (λ c. search needs) add-low (λ c. search needs) (λ c. search needs) (λ c. search needs)
+    loop-again returns-2)

@@ -34,32 +34,8 @@ abbrev μ-pairs : tie.MeasureT-pairs
 abbrev blank : Desk
 blank = record { code = 0; number = num 0; link = record { phase = 0 } }
 
-pairs-holds : tie.Need-pairs-holds Inv-loop μ-loop Inv-pairs μ-pairs
-pairs-holds c = search needs
-
-mul-one : tie.Need-mul-one Inv-loop μ-loop Inv-pairs μ-pairs
-mul-one c = search needs
-
-array-copy-out-one : tie.Need-array-copy-out-one Inv-loop μ-loop Inv-pairs μ-pairs
-array-copy-out-one c = search needs
-
-add-j : tie.Need-add-j Inv-loop μ-loop Inv-pairs μ-pairs
-add-j c = search needs
-
 loop-holds : tie.Need-loop-holds Inv-loop μ-loop Inv-pairs μ-pairs
 loop-holds c = (search needs, search needs, c .before .before .pairs .inv .1, refl)
-
-mul-other : tie.Need-mul-other Inv-loop μ-loop Inv-pairs μ-pairs
-mul-other c = search needs
-
-array-copy-out-other : tie.Need-array-copy-out-other Inv-loop μ-loop Inv-pairs μ-pairs
-array-copy-out-other c = search needs
-
-add-j-2 : tie.Need-add-j-2 Inv-loop μ-loop Inv-pairs μ-pairs
-add-j-2 c = search needs
-
-loop-less : tie.Need-loop-less Inv-loop μ-loop Inv-pairs μ-pairs
-loop-less c = search needs
 
 loop-again : tie.Need-loop-again Inv-loop μ-loop Inv-pairs μ-pairs
 loop-again c =
@@ -68,12 +44,6 @@ loop-again c =
     let m : st .args .n ≤ length (st .args .t1) = search needs in
     let k = getD (st .args .t1) (c .before .before .before .before .before .before .before .before .pairs .i) blank in
     (search needs, search needs, l .inv .2, l .inv .3 ∙ number-at (st .args .t1) (st .args .n) m (l .j) blank (search needs) (k .number .digits) ∙ rw (ne-eqb _ _ (c .if1 .left)))
-
-add-i : tie.Need-add-i Inv-loop μ-loop Inv-pairs μ-pairs
-add-i c = search needs
-
-pairs-less : tie.Need-pairs-less Inv-loop μ-loop Inv-pairs μ-pairs
-pairs-less c = search needs
 
 pairs-again : tie.Need-pairs-again Inv-loop μ-loop Inv-pairs μ-pairs
 pairs-again c =
@@ -105,22 +75,6 @@ pub has-equal-numbers-spec : {M : Type 1} → statement M
 has-equal-numbers-spec =
     tie.close
     (tie.spec
-    Inv-loop
-    μ-loop
-    Inv-pairs
-    μ-pairs
-    pairs-holds
-    mul-one
-    array-copy-out-one
-    add-j
-    loop-holds
-    mul-other
-    array-copy-out-other
-    add-j-2
-    loop-less
-    loop-again
-    add-i
-    pairs-less
-    pairs-again
-    returns
-    returns-2)
+    Inv-loop μ-loop Inv-pairs μ-pairs (λ c. search needs) (λ c. search needs) (λ c. search needs) (λ c. search needs)
+    loop-holds (λ c. search needs) (λ c. search needs) (λ c. search needs) (λ c. search needs) loop-again
+    (λ c. search needs) (λ c. search needs) pairs-again returns returns-2)

@@ -4,11 +4,8 @@ use borrow.Author.Needs.{needs}
 use Rattle.entries.proofs.desks.no_desk.Statement.{statement}
 use Rattle.entries.proofs.desks.no_desk.Tie as tie
 
-new-requires : tie.Need-new-requires
-new-requires c κs = search needs
-
 returns : tie.Need-returns
 returns c = rw (c .new .ensures)
 
 pub no-desk-spec : {M : Type 1} → statement M
-no-desk-spec = tie.close (tie.spec new-requires returns)
+no-desk-spec = tie.close (tie.spec (λ c κs. search needs) returns)

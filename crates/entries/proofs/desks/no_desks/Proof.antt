@@ -4,11 +4,8 @@ use borrow.Author.Needs.{needs}
 use Rattle.entries.proofs.desks.no_desks.Statement.{statement}
 use Rattle.entries.proofs.desks.no_desks.Tie as tie
 
-no-desk-requires : tie.Need-no-desk-requires
-no-desk-requires c κs = search needs
-
 returns : tie.Need-returns
 returns c = rw (c .no-desk .ensures)
 
 pub no-desks-spec : {M : Type 1} → statement M
-no-desks-spec = tie.close (tie.spec no-desk-requires returns)
+no-desks-spec = tie.close (tie.spec (λ c κs. search needs) returns)

@@ -26,28 +26,10 @@ eight s h =
     let l : 8 ≤ length (drop 2 s) = simp length-drop (omega arith) in
     rw (length-take-le 8 (drop 2 s) l) (omega arith)
 
-word-requires : tie.Need-word-requires
-word-requires c κs = search needs
-
 returns : tie.Need-returns
 returns c =
     let k : leb (word (c .before .before .before .args .s .now) 0) 1023 ≡ false = rw (c .before .word .ensures) at (lt-leb _ _ (c .if1 .taken)) in
     simp k
-
-sub-read-digits : tie.Need-sub-read-digits
-sub-read-digits c = search needs
-
-part-read-digits-start : tie.Need-part-read-digits-start
-part-read-digits-start c = search needs
-
-part-read-digits-end : tie.Need-part-read-digits-end
-part-read-digits-end c = search needs
-
-read-digits-requires : tie.Need-read-digits-requires
-read-digits-requires c κs = search needs
-
-enum-known-d : tie.Need-enum-known-d
-enum-known-d c = search needs
 
 enum-told : tie.Need-enum-told
 enum-told c = search needs
@@ -68,15 +50,6 @@ returns-3 c =
     let z : eqb (valueOf (digits s)) 0 ≡ true = eq-eqb _ _ (d .1 ∙ c .if2 .taken) in
     simp (k, d .0, z)
 
-new-requires : tie.Need-new-requires
-new-requires c κs = search needs
-
-new-requires-2 : tie.Need-new-requires-2
-new-requires-2 c κs = search needs
-
-cast-t12 : tie.Need-cast-t12
-cast-t12 c = search needs
-
 returns-4 : tie.Need-returns-4
 returns-4 c =
     let s = c .before .before .before .before .before .before .before .before .before .before .before .args .s .now in
@@ -91,17 +64,6 @@ pub read-desk-spec : {M : Type 1} → statement M
 read-desk-spec =
     tie.close
     (tie.spec
-    word-requires
-    returns
-    sub-read-digits
-    part-read-digits-start
-    part-read-digits-end
-    read-digits-requires
-    enum-known-d
-    enum-told
-    returns-2
-    returns-3
-    new-requires
-    new-requires-2
-    cast-t12
-    returns-4)
+    (λ c κs. search needs) returns (λ c. search needs) (λ c. search needs) (λ c. search needs) (λ c κs. search needs)
+    (λ c. search needs) enum-told returns-2 returns-3 (λ c κs. search needs) (λ c κs. search needs)
+    (λ c. search needs) returns-4)

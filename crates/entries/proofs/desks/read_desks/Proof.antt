@@ -32,35 +32,14 @@ Inv-loop s n desks₀ at₀ i₀ desks at i =
 abbrev μ-loop : tie.MeasureT-loop
 μ-loop s n desks₀ at₀ i₀ desks at i = n - i
 
-no-desk-requires : tie.Need-no-desk-requires Inv-loop μ-loop
-no-desk-requires c κs = search needs
-
 loop-holds : tie.Need-loop-holds Inv-loop μ-loop
 loop-holds c =
     let st = c .before .before in
     let h : length (desksIn (st .args .n) (st .args .s .now)) ≤ 4 = rw length-desks (search needs) in
     (search needs, search needs, search needs, rw sub-zero, rw (sub-zero, c .no-desk .ensures) (filled-sets 4 noDesk (desksIn (st .args .n) (st .args .s .now)) h))
 
-sub-read-desk : tie.Need-sub-read-desk Inv-loop μ-loop
-sub-read-desk c = search needs
-
-part-read-desk-start : tie.Need-part-read-desk-start Inv-loop μ-loop
-part-read-desk-start c = search needs
-
-part-read-desk-end : tie.Need-part-read-desk-end Inv-loop μ-loop
-part-read-desk-end c = search needs
-
-read-desk-requires : tie.Need-read-desk-requires Inv-loop μ-loop
-read-desk-requires c κs = search needs
-
-enum-known-d : tie.Need-enum-known-d Inv-loop μ-loop
-enum-known-d c = search needs
-
 enum-told : tie.Need-enum-told Inv-loop μ-loop
 enum-told c = search needs
-
-no-desks-requires : tie.Need-no-desks-requires Inv-loop μ-loop
-no-desks-requires c κs = search needs
 
 returns : tie.Need-returns Inv-loop μ-loop
 unfolding desksRead
@@ -71,21 +50,6 @@ returns c =
     let d : deskIn (drop (l .at) s) ≡ Bad = rw (part-to-end s (l .at)) at (sym (c .before .before .before .read-desk .ensures) ∙ c .before .enum-told .given .1) in
     let e : desksOk (st .args .n) s ≡ false = l .inv .3 ∙ desks-ok-at (st .args .n) (l .i) (search needs) s (l .at) ∙ rw (desk-bad (drop (l .at) s) d) in
     rw e (c .no-desks .ensures)
-
-mul-desks : tie.Need-mul-desks Inv-loop μ-loop
-mul-desks c = search needs
-
-array-set-from-desks : tie.Need-array-set-from-desks Inv-loop μ-loop
-array-set-from-desks c = search needs
-
-add-at : tie.Need-add-at Inv-loop μ-loop
-add-at c = search needs
-
-add-i : tie.Need-add-i Inv-loop μ-loop
-add-i c = search needs
-
-loop-less : tie.Need-loop-less Inv-loop μ-loop
-loop-less c = search needs
 
 loop-again : tie.Need-loop-again Inv-loop μ-loop
 loop-again c =
@@ -116,22 +80,6 @@ pub read-desks-spec : {M : Type 1} → statement M
 read-desks-spec =
     tie.close
     (tie.spec
-    Inv-loop
-    μ-loop
-    no-desk-requires
-    loop-holds
-    sub-read-desk
-    part-read-desk-start
-    part-read-desk-end
-    read-desk-requires
-    enum-known-d
-    enum-told
-    no-desks-requires
-    returns
-    mul-desks
-    array-set-from-desks
-    add-at
-    add-i
-    loop-less
-    loop-again
-    returns-2)
+    Inv-loop μ-loop (λ c κs. search needs) loop-holds (λ c. search needs) (λ c. search needs) (λ c. search needs)
+    (λ c κs. search needs) (λ c. search needs) enum-told (λ c κs. search needs) returns (λ c. search needs)
+    (λ c. search needs) (λ c. search needs) (λ c. search needs) (λ c. search needs) loop-again returns-2)

@@ -6,19 +6,13 @@ use borrow.Author.Needs.{needs}
 use Rattle.entries.proofs.entry.read_bare.Statement.{statement}
 use Rattle.entries.proofs.entry.read_bare.Tie as tie
 
-refused-requires : tie.Need-refused-requires
-refused-requires c κs = search needs
-
 returns : tie.Need-returns
 unfolding bareIn
 returns c = simp (ne-eqb _ _ (c .before .if1 .taken)) (c .refused .ensures)
-
-asks-requires : tie.Need-asks-requires
-asks-requires c κs = search needs
 
 returns-2 : tie.Need-returns-2
 unfolding bareIn
 returns-2 c = simp (eq-eqb _ _ (c .before .if1 .left)) (c .asks .ensures)
 
 pub read-bare-spec : {M : Type 1} → statement M
-read-bare-spec = tie.close (tie.spec refused-requires returns asks-requires returns-2)
+read-bare-spec = tie.close (tie.spec (λ c κs. search needs) returns (λ c κs. search needs) returns-2)

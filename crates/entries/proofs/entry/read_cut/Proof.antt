@@ -6,21 +6,9 @@ use borrow.Author.Needs.{needs}
 use Rattle.entries.proofs.entry.read_cut.Statement.{statement}
 use Rattle.entries.proofs.entry.read_cut.Tie as tie
 
-refused-requires : tie.Need-refused-requires
-refused-requires c κs = search needs
-
 returns : tie.Need-returns
 unfolding payloadIn
 returns c = simp (ne-eqb _ _ (c .before .if1 .taken)) (c .refused .ensures)
-
-shared-slice-read-asks : tie.Need-shared-slice-read-asks
-shared-slice-read-asks c = search needs
-
-shared-slice-read-asks-2 : tie.Need-shared-slice-read-asks-2
-shared-slice-read-asks-2 c = search needs
-
-asks-requires : tie.Need-asks-requires
-asks-requires c κs = search needs
 
 returns-2 : tie.Need-returns-2
 unfolding payloadIn
@@ -30,9 +18,4 @@ pub read-cut-spec : {M : Type 1} → statement M
 read-cut-spec =
     tie.close
     (tie.spec
-    refused-requires
-    returns
-    shared-slice-read-asks
-    shared-slice-read-asks-2
-    asks-requires
-    returns-2)
+    (λ c κs. search needs) returns (λ c. search needs) (λ c. search needs) (λ c κs. search needs) returns-2)

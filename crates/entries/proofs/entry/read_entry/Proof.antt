@@ -19,21 +19,12 @@ use Rattle.entries.proofs.entry.read_entry.Tie as tie
 long : (e : List ℕ) → measured e ≡ true → 4 ≤ length e
 long e h = leb-true 4 (length e) (both (leb 4 (length e)) (eqb (word e 0 + 2) (length e)) (both (leb 4 (length e) && eqb (word e 0 + 2) (length e)) (leb (word e 0) 12000) h .0) .0)
 
-is-measured-requires : tie.Need-is-measured-requires
-is-measured-requires c κs = search needs
-
-refused-requires : tie.Need-refused-requires
-refused-requires c κs = search needs
-
 returns : tie.Need-returns
 unfolding readEntry
 returns c = rw (sym (c .before .before .is-measured .ensures) ∙ not-true _ (c .before .if1 .taken)) (c .refused .ensures)
 
 shared-slice-read-if2 : tie.Need-shared-slice-read-if2
 shared-slice-read-if2 c = omega (arith, long (c .before .before .before .before .args .entry .now) (sym (c .before .before .is-measured .ensures) ∙ not-false _ (c .before .if1 .left)))
-
-refused-requires-2 : tie.Need-refused-requires-2
-refused-requires-2 c κs = search needs
 
 returns-2 : tie.Need-returns-2
 unfolding readEntry
@@ -42,9 +33,6 @@ returns-2 c =
 
 shared-slice-read-read-payload : tie.Need-shared-slice-read-read-payload
 shared-slice-read-read-payload c = omega (arith, long (c .before .before .before .before .before .before .args .entry .now) (sym (c .before .before .before .before .is-measured .ensures) ∙ not-false _ (c .before .before .before .if1 .left)))
-
-read-payload-requires : tie.Need-read-payload-requires
-read-payload-requires c κs = search needs
 
 returns-3 : tie.Need-returns-3
 unfolding readEntry payloadIn
@@ -55,12 +43,5 @@ pub read-entry-spec : {M : Type 1} → statement M
 read-entry-spec =
     tie.close
     (tie.spec
-    is-measured-requires
-    refused-requires
-    returns
-    shared-slice-read-if2
-    refused-requires-2
-    returns-2
-    shared-slice-read-read-payload
-    read-payload-requires
-    returns-3)
+    (λ c κs. search needs) (λ c κs. search needs) returns shared-slice-read-if2 (λ c κs. search needs) returns-2
+    shared-slice-read-read-payload (λ c κs. search needs) returns-3)

@@ -6,18 +6,9 @@ use borrow.Author.Needs.{needs}
 use Rattle.entries.proofs.entry.read_mobile_off.Statement.{statement}
 use Rattle.entries.proofs.entry.read_mobile_off.Tie as tie
 
-refused-requires : tie.Need-refused-requires
-refused-requires c κs = search needs
-
 returns : tie.Need-returns
 unfolding payloadIn
 returns c = simp (ne-eqb _ _ (c .before .if1 .taken)) (c .refused .ensures)
-
-shared-slice-read-asks : tie.Need-shared-slice-read-asks
-shared-slice-read-asks c = search needs
-
-asks-requires : tie.Need-asks-requires
-asks-requires c κs = search needs
 
 returns-2 : tie.Need-returns-2
 unfolding payloadIn
@@ -25,4 +16,4 @@ returns-2 c = simp (eq-eqb _ _ (c .before .before .if1 .left)) (c .asks .ensures
 
 pub read-mobile-off-spec : {M : Type 1} → statement M
 read-mobile-off-spec =
-    tie.close (tie.spec refused-requires returns shared-slice-read-asks asks-requires returns-2)
+    tie.close (tie.spec (λ c κs. search needs) returns (λ c. search needs) (λ c κs. search needs) returns-2)

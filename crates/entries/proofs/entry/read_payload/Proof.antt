@@ -7,33 +7,6 @@ use borrow.Author.Needs.{needs}
 use Rattle.entries.proofs.entry.read_payload.Statement.{statement}
 use Rattle.entries.proofs.entry.read_payload.Tie as tie
 
-read-telegram-requires : tie.Need-read-telegram-requires
-read-telegram-requires c κs = search needs
-
-read-press-requires : tie.Need-read-press-requires
-read-press-requires c κs = search needs
-
-read-cut-requires : tie.Need-read-cut-requires
-read-cut-requires c κs = search needs
-
-read-mobile-on-requires : tie.Need-read-mobile-on-requires
-read-mobile-on-requires c κs = search needs
-
-read-mobile-off-requires : tie.Need-read-mobile-off-requires
-read-mobile-off-requires c κs = search needs
-
-read-bare-requires : tie.Need-read-bare-requires
-read-bare-requires c κs = search needs
-
-asks-requires : tie.Need-asks-requires
-asks-requires c κs = search needs
-
-read-bare-requires-2 : tie.Need-read-bare-requires-2
-read-bare-requires-2 c κs = search needs
-
-refused-requires : tie.Need-refused-requires
-refused-requires c κs = search needs
-
 returns : tie.Need-returns
 returns c = rw (c .before .match .keys1) (c .read-telegram .ensures)
 
@@ -71,21 +44,6 @@ pub read-payload-spec : {M : Type 1} → statement M
 read-payload-spec =
     tie.close
     (tie.spec
-    read-telegram-requires
-    read-press-requires
-    read-cut-requires
-    read-mobile-on-requires
-    read-mobile-off-requires
-    read-bare-requires
-    asks-requires
-    read-bare-requires-2
-    refused-requires
-    returns
-    returns-2
-    returns-3
-    returns-4
-    returns-5
-    returns-6
-    returns-7
-    returns-8
-    returns-9)
+    (λ c κs. search needs) (λ c κs. search needs) (λ c κs. search needs) (λ c κs. search needs) (λ c κs. search needs)
+    (λ c κs. search needs) (λ c κs. search needs) (λ c κs. search needs) (λ c κs. search needs) returns returns-2
+    returns-3 returns-4 returns-5 returns-6 returns-7 returns-8 returns-9)

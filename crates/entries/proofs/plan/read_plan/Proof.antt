@@ -18,17 +18,8 @@ use Rattle.entries.proofs.Answers.{counts-found, counts-bad, Counted, c
 use Rattle.entries.proofs.plan.read_plan.Statement.{statement}
 use Rattle.entries.proofs.plan.read_plan.Tie as tie
 
-read-counts-requires : tie.Need-read-counts-requires
-read-counts-requires c κs = search needs
-
-enum-known-counts : tie.Need-enum-known-counts
-enum-known-counts c = search needs
-
 enum-told : tie.Need-enum-told
 enum-told c = search needs
-
-no-plan-requires : tie.Need-no-plan-requires
-no-plan-requires c κs = search needs
 
 returns : tie.Need-returns
 unfolding planOf planOk countsOk
@@ -53,17 +44,11 @@ facts w = counted (plan w) (right w .0)
 desk-count : (w : tie.After-wide) → w .wide .result ≡ deskCount (plan w)
 desk-count w = w .wide .ensures ∙ ap (λ (k : Size). k .desks) (right w .1)
 
-wide-requires : tie.Need-wide-requires
-wide-requires c κs = search needs
-
 sub-read-desks : tie.Need-sub-read-desks
 sub-read-desks c = omega (arith, facts c .size)
 
 part-read-desks-start : tie.Need-part-read-desks-start
 part-read-desks-start c = omega (arith, facts c .size)
-
-part-read-desks-end : tie.Need-part-read-desks-end
-part-read-desks-end c = search needs
 
 read-desks-requires : tie.Need-read-desks-requires
 read-desks-requires c κs =
@@ -75,9 +60,6 @@ desks-were : (d : tie.After-read-desks)
 desks-were d =
     let w = d .before .before in
     d .read-desks .ensures ∙ desks-given (plan w) (w .wide .result) (desk-count w)
-
-no-plan-requires-2 : tie.Need-no-plan-requires-2
-no-plan-requires-2 c κs = search needs
 
 returns-2 : tie.Need-returns-2
 unfolding planOf planOk
@@ -108,21 +90,12 @@ distinct-are a =
     let e = desks-taken (plan w) (w .wide .result) (a .before .before .before .before .read-desks .result .desks) (desk-count w) (desks (a .before) .1) in
     a .has-equal-numbers .ensures ∙ ap (λ (ds : List Desk). not (distinct ds)) e
 
-no-plan-requires-3 : tie.Need-no-plan-requires-3
-no-plan-requires-3 c κs = search needs
-
 returns-3 : tie.Need-returns-3
 unfolding planOf planOk
 returns-3 c =
     let a = c .before .before in
     let d : distinct (desksOf (plan (counts (a .before)))) ≡ false = not-true _ (sym (distinct-are a) ∙ c .before .if2 .taken) in
     simp (d, and-false) (c .no-plan3 .ensures)
-
-mul-at : tie.Need-mul-at
-mul-at c = search needs
-
-add-at : tie.Need-add-at
-add-at c = search needs
 
 sub-read-channels : tie.Need-sub-read-channels
 sub-read-channels c =
@@ -133,12 +106,6 @@ part-read-channels-start : tie.Need-part-read-channels-start
 part-read-channels-start c =
     let w = counts (c .before .before) in
     omega (arith, desk-count w, facts w .size)
-
-part-read-channels-end : tie.Need-part-read-channels-end
-part-read-channels-end c = search needs
-
-wide-requires-2 : tie.Need-wide-requires-2
-wide-requires-2 c κs = search needs
 
 -- what the channels' reader is asked, and what it found
 abbrev before-channels : tie.After-wide2 → tie.After-has-equal-numbers
@@ -163,9 +130,6 @@ channels-were h =
     let w = counted-at (h .before) in
     let n : size w .desks ≡ deskCount (plan w) = ap (λ (k : Size). k .desks) (right w .1) in
     h .read-channels .ensures ∙ channels-given (plan w) (w .wide .result) (h .before .wide2 .result) (size w .desks) (desk-count w) (channel-count (h .before)) n
-
-no-plan-requires-4 : tie.Need-no-plan-requires-4
-no-plan-requires-4 c κs = search needs
 
 returns-4 : tie.Need-returns-4
 unfolding planOf planOk
@@ -192,28 +156,8 @@ pub read-plan-spec : {M : Type 1} → statement M
 read-plan-spec =
     tie.close
     (tie.spec
-    read-counts-requires
-    enum-known-counts
-    enum-told
-    no-plan-requires
-    returns
-    wide-requires
-    sub-read-desks
-    part-read-desks-start
-    part-read-desks-end
-    read-desks-requires
-    no-plan-requires-2
-    returns-2
-    has-equal-numbers-requires
-    no-plan-requires-3
-    returns-3
-    mul-at
-    add-at
-    sub-read-channels
-    part-read-channels-start
-    part-read-channels-end
-    wide-requires-2
-    read-channels-requires
-    no-plan-requires-4
-    returns-4
-    returns-5)
+    (λ c κs. search needs) (λ c. search needs) enum-told (λ c κs. search needs) returns (λ c κs. search needs)
+    sub-read-desks part-read-desks-start (λ c. search needs) read-desks-requires (λ c κs. search needs) returns-2
+    has-equal-numbers-requires (λ c κs. search needs) returns-3 (λ c. search needs) (λ c. search needs)
+    sub-read-channels part-read-channels-start (λ c. search needs) (λ c κs. search needs) read-channels-requires
+    (λ c κs. search needs) returns-4 returns-5)

@@ -14,12 +14,6 @@ use borrow.Author.Needs.{needs}
 use Rattle.line_set.proofs.all.hand_over.Statement.{statement}
 use Rattle.line_set.proofs.all.hand_over.Tie as tie
 
-space-all-requires : tie.Need-space-all-requires
-space-all-requires c κs = search needs
-
-refuse-requires : tie.Need-refuse-requires
-refuse-requires c κs = search needs
-
 returns : tie.Need-returns
 unfolding onHandover
 returns c =
@@ -31,12 +25,6 @@ put-all-requires c κs =
     let st = c .before .before .before .before in
     let s = st .args .set in
     omega (arith, c .before .before .space-all .ensures, space-length (s .desks) (sendsOf s Handover (channelsOf s)) (even-all s Handover (channelsOf s)), c .before .if1 .left)
-
-new-requires : tie.Need-new-requires
-new-requires c κs = search needs
-
-same-length : tie.Need-same-length
-same-length c = search needs
 
 returns-2 : tie.Need-returns-2
 unfolding onHandover
@@ -50,10 +38,5 @@ pub hand-over-spec : {M : Type 1} → statement M
 hand-over-spec =
     tie.close
     (tie.spec
-    space-all-requires
-    refuse-requires
-    returns
-    put-all-requires
-    new-requires
-    same-length
+    (λ c κs. search needs) (λ c κs. search needs) returns put-all-requires (λ c κs. search needs) (λ c. search needs)
     returns-2)

@@ -32,17 +32,8 @@ Inv-loop event buffer₀ set desks n end at₀ i₀ buffer at i = Writing buffer
 abbrev μ-loop : tie.MeasureT-loop
 μ-loop event buffer₀ set desks n end at₀ i₀ buffer at i = end - i
 
-count-of-requires : tie.Need-count-of-requires Inv-loop μ-loop
-count-of-requires c κs = search needs
-
 loop-holds : tie.Need-loop-holds Inv-loop μ-loop
 loop-holds c = (start _ _ _, omega arith)
-
-mul-c : tie.Need-mul-c Inv-loop μ-loop
-mul-c c = search needs
-
-element-copy-out-c : tie.Need-element-copy-out-c Inv-loop μ-loop
-element-copy-out-c c = search needs
 
 put-in-requires : tie.Need-put-in-requires Inv-loop μ-loop
 put-in-requires c κs =
@@ -55,12 +46,6 @@ put-in-requires c κs =
     let g = at-taken (s .channels) (s .size .channels) (l .i) noChannel _ h in
     let w = room (l .inv .0) (put-turn (s .desks) (s .size .desks) (st .args .event) (channelsOf s) (l .i) noChannel h) (omega (arith, whole s (st .args .event) (st .pre))) in
     subst (λ (x : Channel). l .at + length (recordsOf (s .desks) (delivered (x .code) (sendsIn (s .desks) (s .size .desks) (st .args .event) x))) ≤ length (l .buffer)) g w
-
-add-i : tie.Need-add-i Inv-loop μ-loop
-add-i c = search needs
-
-loop-less : tie.Need-loop-less Inv-loop μ-loop
-loop-less c = search needs
 
 loop-again : tie.Need-loop-again Inv-loop μ-loop
 loop-again c =
@@ -95,15 +80,5 @@ pub put-all-spec : {M : Type 1} → statement M
 put-all-spec =
     tie.close
     (tie.spec
-    Inv-loop
-    μ-loop
-    count-of-requires
-    loop-holds
-    mul-c
-    element-copy-out-c
-    put-in-requires
-    add-i
-    loop-less
-    loop-again
-    same-length
-    returns)
+    Inv-loop μ-loop (λ c κs. search needs) loop-holds (λ c. search needs) (λ c. search needs) put-in-requires
+    (λ c. search needs) (λ c. search needs) loop-again same-length returns)

@@ -21,9 +21,6 @@ use borrow.Author.Needs.{needs}
 use Rattle.line_set.proofs.all.put_in.Statement.{statement}
 use Rattle.line_set.proofs.all.put_in.Tie as tie
 
-sends-any-requires : tie.Need-sends-any-requires
-sends-any-requires c κs = search needs
-
 returns : tie.Need-returns
 unfolding recordsOf delivered
 returns c =
@@ -32,20 +29,11 @@ returns c =
     let e = nothing-sent (sendsIn (st .args .desks) (st .args .n) (st .args .event) (st .args .c)) (sym (c .before .sends-any .ensures x) ∙ not-true _ (c .if1 .taken)) in
     (rw e (omega arith), rw e (sym (written-none _ _)))
 
-holder-place-requires : tie.Need-holder-place-requires
-holder-place-requires c κs = search needs
-
-moved-requires : tie.Need-moved-requires
-moved-requires c κs = search needs
-
 put-requires : tie.Need-put-requires
 put-requires c κs =
     let st = c .before .before .before .before .before .before .before in
     let h = c .before .before .moved .ensures .1 ∙ ap (λ (d : ℕ). heard (happens (st .args .event) (contextIn (st .args .desks) (st .args .n) (st .args .c) d) (st .args .c) .sends)) (c .before .before .before .holder-place .ensures) in
     rw (same-records (st .args .desks) (st .args .c .code) _ _ h) (st .pre)
-
-same-length : tie.Need-same-length
-same-length c = search needs
 
 returns-2 : tie.Need-returns-2
 returns-2 c =
@@ -58,10 +46,5 @@ pub put-in-spec : {M : Type 1} → statement M
 put-in-spec =
     tie.close
     (tie.spec
-    sends-any-requires
-    returns
-    holder-place-requires
-    moved-requires
-    put-requires
-    same-length
+    (λ c κs. search needs) returns (λ c κs. search needs) (λ c κs. search needs) put-requires (λ c. search needs)
     returns-2)

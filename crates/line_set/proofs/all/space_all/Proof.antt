@@ -20,29 +20,11 @@ Inv-loop event set desks n end sum₀ i₀ sum i = Summed (set .desks) (set .siz
 abbrev μ-loop : tie.MeasureT-loop
 μ-loop event set desks n end sum₀ i₀ sum i = end - i
 
-count-of-requires : tie.Need-count-of-requires Inv-loop μ-loop
-count-of-requires c κs = search needs
-
 loop-holds : tie.Need-loop-holds Inv-loop μ-loop
 loop-holds c = (sum-first _ _ _ _, omega arith)
 
-mul-c : tie.Need-mul-c Inv-loop μ-loop
-mul-c c = search needs
-
-element-copy-out-c : tie.Need-element-copy-out-c Inv-loop μ-loop
-element-copy-out-c c = search needs
-
-space-in-requires : tie.Need-space-in-requires Inv-loop μ-loop
-space-in-requires c κs = search needs
-
 add-sum : tie.Need-add-sum Inv-loop μ-loop
 add-sum c = omega (arith, c .before .before .before .loop .inv .0 .bound, c .space-in .ensures .1, c .before .before .before .before .count-of .ensures .1, c .before .before .loop-test .taken)
-
-add-i : tie.Need-add-i Inv-loop μ-loop
-add-i c = search needs
-
-loop-less : tie.Need-loop-less Inv-loop μ-loop
-loop-less c = search needs
 
 loop-again : tie.Need-loop-again Inv-loop μ-loop
 loop-again c =
@@ -72,15 +54,5 @@ pub space-all-spec : {M : Type 1} → statement M
 space-all-spec =
     tie.close
     (tie.spec
-    Inv-loop
-    μ-loop
-    count-of-requires
-    loop-holds
-    mul-c
-    element-copy-out-c
-    space-in-requires
-    add-sum
-    add-i
-    loop-less
-    loop-again
-    returns)
+    Inv-loop μ-loop (λ c κs. search needs) loop-holds (λ c. search needs) (λ c. search needs) (λ c κs. search needs)
+    add-sum (λ c. search needs) (λ c. search needs) loop-again returns)

@@ -16,24 +16,12 @@ use borrow.Author.Needs.{needs}
 use Rattle.line_set.proofs.all.space_in.Statement.{statement}
 use Rattle.line_set.proofs.all.space_in.Tie as tie
 
-sends-any-requires : tie.Need-sends-any-requires
-sends-any-requires c κs = search needs
-
 returns : tie.Need-returns
 unfolding spaceOf delivered
 returns c =
     let st = c .before .before in
     let x = contextIn (st .args .desks) (st .args .n) (st .args .c) (holderPlace (st .args .c .holder)) in
     (rw (nothing-sent (sendsIn (st .args .desks) (st .args .n) (st .args .event) (st .args .c)) (sym (c .before .sends-any .ensures x) ∙ not-true _ (c .if1 .taken))) refl, omega arith)
-
-holder-place-requires : tie.Need-holder-place-requires
-holder-place-requires c κs = search needs
-
-moved-requires : tie.Need-moved-requires
-moved-requires c κs = search needs
-
-space-requires : tie.Need-space-requires
-space-requires c κs = search needs
 
 returns-2 : tie.Need-returns-2
 returns-2 c =
@@ -46,9 +34,4 @@ pub space-in-spec : {M : Type 1} → statement M
 space-in-spec =
     tie.close
     (tie.spec
-    sends-any-requires
-    returns
-    holder-place-requires
-    moved-requires
-    space-requires
-    returns-2)
+    (λ c κs. search needs) returns (λ c κs. search needs) (λ c κs. search needs) (λ c κs. search needs) returns-2)

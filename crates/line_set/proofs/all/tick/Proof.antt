@@ -16,9 +16,6 @@ use borrow.Author.Needs.{needs}
 use Rattle.line_set.proofs.all.tick.Statement.{statement}
 use Rattle.line_set.proofs.all.tick.Tie as tie
 
-ticked-requires : tie.Need-ticked-requires
-ticked-requires c κs = search needs
-
 returns : tie.Need-returns
 unfolding onTick
 returns c =
@@ -28,12 +25,6 @@ returns c =
     let z = c .before .before .before .ticked .ensures .1 (not-true _ (c .if1 .taken)) in
     emitted s (onTick s) b (omega (arith, z)) (even-all s Tick (channelsOf s)) (unwritten b (s .desks) (sendsOf s Tick (channelsOf s)) z (even-all s Tick (channelsOf s)))
     (ap₂ (λ (t : LineSet) (n : ℕ). accepted t n) (c .before .before .before .ticked .ensures .0) (sym z))
-
-space-all-requires : tie.Need-space-all-requires
-space-all-requires c κs = search needs
-
-refuse-requires : tie.Need-refuse-requires
-refuse-requires c κs = search needs
 
 returns-2 : tie.Need-returns-2
 unfolding onTick
@@ -47,9 +38,6 @@ put-all-requires c κs =
     let s = st .args .set in
     omega (arith, c .before .before .space-all .ensures, space-length (s .desks) (sendsOf s Tick (channelsOf s)) (even-all s Tick (channelsOf s)), c .before .if2 .left)
 
-same-length : tie.Need-same-length
-same-length c = search needs
-
 returns-3 : tie.Need-returns-3
 unfolding onTick
 returns-3 c =
@@ -62,11 +50,5 @@ pub tick-spec : {M : Type 1} → statement M
 tick-spec =
     tie.close
     (tie.spec
-    ticked-requires
-    returns
-    space-all-requires
-    refuse-requires
-    returns-2
-    put-all-requires
-    same-length
-    returns-3)
+    (λ c κs. search needs) returns (λ c κs. search needs) (λ c κs. search needs) returns-2 put-all-requires
+    (λ c. search needs) returns-3)

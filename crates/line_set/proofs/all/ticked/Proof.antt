@@ -42,76 +42,25 @@ abbrev μ-loop : tie.MeasureT-loop
 μ-loop set₀ end due₀ i₀ set due i = end - i
 
 -- src/all.rt:98:9
-count-of-requires : tie.Need-count-of-requires Inv-loop μ-loop
-count-of-requires c κs = search needs
-
 -- src/all.rt:101:5
 loop-holds : tie.Need-loop-holds Inv-loop μ-loop
 loop-holds c = (tick-first _, omega arith, refl, λ z. sum-first _ _ _ _)
 
 -- src/all.rt:102:17
-mul-c : tie.Need-mul-c Inv-loop μ-loop
-mul-c c = search needs
-
 -- src/all.rt:102:17
-element-copy-out-c : tie.Need-element-copy-out-c Inv-loop μ-loop
-element-copy-out-c c = search needs
-
 -- src/all.rt:103:13
-falls-requires : tie.Need-falls-requires Inv-loop μ-loop
-falls-requires c κs = search needs
-
-enum-told : tie.Need-enum-told Inv-loop μ-loop
-enum-told c = search needs
-
 -- src/all.rt:106:28
-enum-known-falling : tie.Need-enum-known-falling Inv-loop μ-loop
-enum-known-falling c = search needs
-
 -- src/all.rt:107:17
-mul-set : tie.Need-mul-set Inv-loop μ-loop
-mul-set c = search needs
-
 -- src/all.rt:107:17
-way-write-given-set : tie.Need-way-write-given-set Inv-loop μ-loop
-way-write-given-set c = search needs
-
 -- src/all.rt:109:30
-enum-known-falling-2 : tie.Need-enum-known-falling-2 Inv-loop μ-loop
-enum-known-falling-2 c = search needs
-
 -- src/all.rt:110:17
-mul-set-2 : tie.Need-mul-set-2 Inv-loop μ-loop
-mul-set-2 c = search needs
-
 -- src/all.rt:110:17
-way-write-given-set-2 : tie.Need-way-write-given-set-2 Inv-loop μ-loop
-way-write-given-set-2 c = search needs
-
 -- src/all.rt:113:21
-enum-told-2 : tie.Need-enum-told-2 Inv-loop μ-loop
-enum-told-2 c = search needs
-
 -- src/all.rt:113:21
-ticked-requires : tie.Need-ticked-requires Inv-loop μ-loop
-ticked-requires c κs = search needs
-
 -- src/all.rt:114:17
-mul-next : tie.Need-mul-next Inv-loop μ-loop
-mul-next c = search needs
-
 -- src/all.rt:114:17
-element-set-from-next : tie.Need-element-set-from-next Inv-loop μ-loop
-element-set-from-next c = search needs
-
 -- src/all.rt:118:9
-add-i : tie.Need-add-i Inv-loop μ-loop
-add-i c = search needs
-
 -- src/all.rt:101:5
-loop-less : tie.Need-loop-less Inv-loop μ-loop
-loop-less c = search needs
-
 -- src/all.rt:101:5
 loop-again : tie.Need-loop-again Inv-loop μ-loop
 loop-again c =
@@ -176,25 +125,7 @@ pub ticked-spec : {M : Type 1} → statement M
 ticked-spec =
     tie.close
     (tie.spec
-    Inv-loop
-    μ-loop
-    count-of-requires
-    loop-holds
-    mul-c
-    element-copy-out-c
-    falls-requires
-    enum-told
-    enum-known-falling
-    mul-set
-    way-write-given-set
-    enum-known-falling-2
-    mul-set-2
-    way-write-given-set-2
-    enum-told-2
-    ticked-requires
-    mul-next
-    element-set-from-next
-    add-i
-    loop-less
-    loop-again
-    returns)
+    Inv-loop μ-loop (λ c κs. search needs) loop-holds (λ c. search needs) (λ c. search needs) (λ c κs. search needs)
+    (λ c. search needs) (λ c. search needs) (λ c. search needs) (λ c. search needs) (λ c. search needs)
+    (λ c. search needs) (λ c. search needs) (λ c. search needs) (λ c κs. search needs) (λ c. search needs)
+    (λ c. search needs) (λ c. search needs) (λ c. search needs) loop-again returns)

@@ -36,23 +36,11 @@ Inv-loop entry buffer set x desks n q count end₀ i₀ end i = Inv (q .channel)
 abbrev μ-loop : tie.MeasureT-loop
 μ-loop entry buffer set x desks n q count end₀ i₀ end i = end - i
 
-read-entry-requires : tie.Need-read-entry-requires Inv-loop μ-loop
-read-entry-requires c κs = search needs
-
 sub-plan : tie.Need-sub-plan Inv-loop μ-loop
 sub-plan c = let k = (ap (λ (y : Entry). y .kind) (sym (c .before .before .read-entry .ensures)) ∙ c .if1 .taken) in long-enough (now (c .before .before .before .before .before .args .entry)) (kind-read (now (c .before .before .before .before .before .args .entry)) (omega (arith, k)))
 
 part-plan-start : tie.Need-part-plan-start Inv-loop μ-loop
 part-plan-start c = let k = (ap (λ (y : Entry). y .kind) (sym (c .before .before .read-entry .ensures)) ∙ c .if1 .taken) in long-enough (now (c .before .before .before .before .before .args .entry)) (kind-read (now (c .before .before .before .before .before .args .entry)) (omega (arith, k)))
-
-part-plan-end : tie.Need-part-plan-end Inv-loop μ-loop
-part-plan-end c = search needs
-
-plan-requires : tie.Need-plan-requires Inv-loop μ-loop
-plan-requires c κs = search needs
-
-same-length : tie.Need-same-length Inv-loop μ-loop
-same-length c = search needs
 
 returns : tie.Need-returns Inv-loop μ-loop
 returns c =
@@ -64,12 +52,6 @@ returns c =
     step-gives s e b (plan-step s e (readEntry e) (length b) (kind-read e (omega (arith, k))) k)
     (gives-as (ap (λ (l : List ℕ). planOutcome s l (length b)) (part-to-end e 4)) (c .before .before .plan .ensures))
 
-tick-requires : tie.Need-tick-requires Inv-loop μ-loop
-tick-requires c κs = search needs
-
-same-length-2 : tie.Need-same-length-2 Inv-loop μ-loop
-same-length-2 c = search needs
-
 returns-2 : tie.Need-returns-2 Inv-loop μ-loop
 returns-2 c =
     let st = c .before .before .before .before .before .before .before .before .before .before .before in
@@ -79,12 +61,6 @@ returns-2 c =
     let t = both _ _ (c .before .before .before .before .if2 .taken) in
     let k : readEntry e .kind ≡ 6 = (ap (λ (y : Entry). y .kind) (sym (c .before .before .before .before .before .before .before .before .read-entry .ensures)) ∙ eqb-true _ _ (t .1)) in
     step-gives s e b (tick-step s e (readEntry e) (kind-read e (omega (arith, k))) (t .0) (length b) k) (c .before .before .tick .ensures)
-
-hand-over-requires : tie.Need-hand-over-requires Inv-loop μ-loop
-hand-over-requires c κs = search needs
-
-same-length-3 : tie.Need-same-length-3 Inv-loop μ-loop
-same-length-3 c = search needs
 
 returns-3 : tie.Need-returns-3 Inv-loop μ-loop
 returns-3 c =
@@ -96,26 +72,8 @@ returns-3 c =
     let k : readEntry e .kind ≡ 8 = (ap (λ (y : Entry). y .kind) (sym (c .before .before .before .before .before .before .before .before .before .before .read-entry .ensures)) ∙ eqb-true _ _ (t .1)) in
     step-gives s e b (handover-step s e (readEntry e) (kind-read e (omega (arith, k))) (t .0) (length b) k) (c .before .before .hand-over .ensures)
 
-request-of-requires : tie.Need-request-of-requires Inv-loop μ-loop
-request-of-requires c κs = search needs
-
-count-of-requires : tie.Need-count-of-requires Inv-loop μ-loop
-count-of-requires c κs = search needs
-
 loop-holds : tie.Need-loop-holds Inv-loop μ-loop
 loop-holds c = (sought-first _ _, omega arith, omega arith, inl refl)
-
-mul-c : tie.Need-mul-c Inv-loop μ-loop
-mul-c c = search needs
-
-element-copy-out-c : tie.Need-element-copy-out-c Inv-loop μ-loop
-element-copy-out-c c = search needs
-
-cast-if4 : tie.Need-cast-if4 Inv-loop μ-loop
-cast-if4 c = search needs
-
-loop-less : tie.Need-loop-less Inv-loop μ-loop
-loop-less c = search needs
 
 loop-again : tie.Need-loop-again Inv-loop μ-loop
 loop-again c =
@@ -131,12 +89,6 @@ loop-again c =
     let here = sought-found code cs (l .i) noChannel h (ap (λ (x : Channel). eqb (x .code) code) g ∙ eq-eqb _ _ (c .if4 .taken)) (l .inv .0) in
     (l .inv .0, omega arith, omega (arith, l .inv .1, l .inv .2), inr here)
 
-add-i : tie.Need-add-i Inv-loop μ-loop
-add-i c = search needs
-
-loop-less-2 : tie.Need-loop-less-2 Inv-loop μ-loop
-loop-less-2 c = search needs
-
 loop-again-2 : tie.Need-loop-again-2 Inv-loop μ-loop
 loop-again-2 c =
     let st = c .before .before .before .before .before .before .before .before .before .before .before .before .before .before .before .before .before .before in
@@ -149,27 +101,6 @@ loop-again-2 c =
     let h : l .i < length cs = omega (arith, e, c .before .before .before .before .loop-test .taken, l .inv .2) in
     let g = at-taken (s .channels) (s .size .channels) (l .i) noChannel _ h in
     (sought-next code cs (l .i) noChannel h (ap (λ (x : Channel). eqb (x .code) code) g ∙ ne-eqb _ _ (c .if4 .left)) (l .inv .0), omega (arith, c .before .before .before .before .loop-test .taken), l .inv .2, l .inv .3)
-
-place-below-requires : tie.Need-place-below-requires Inv-loop μ-loop
-place-below-requires c κs = search needs
-
-mul-c-2 : tie.Need-mul-c-2 Inv-loop μ-loop
-mul-c-2 c = search needs
-
-element-copy-out-c-2 : tie.Need-element-copy-out-c-2 Inv-loop μ-loop
-element-copy-out-c-2 c = search needs
-
-change-of-requires : tie.Need-change-of-requires Inv-loop μ-loop
-change-of-requires c κs = search needs
-
-mul-channel : tie.Need-mul-channel Inv-loop μ-loop
-mul-channel c = search needs
-
-element-set-from-channel : tie.Need-element-set-from-channel Inv-loop μ-loop
-element-set-from-channel c = search needs
-
-same-length-4 : tie.Need-same-length-4 Inv-loop μ-loop
-same-length-4 c = search needs
 
 returns-4 : tie.Need-returns-4 Inv-loop μ-loop
 returns-4 c =
@@ -194,37 +125,9 @@ pub step-spec : {M : Type 1} → statement M
 step-spec =
     tie.close
     (tie.spec
-    Inv-loop
-    μ-loop
-    read-entry-requires
-    sub-plan
-    part-plan-start
-    part-plan-end
-    plan-requires
-    same-length
-    returns
-    tick-requires
-    same-length-2
-    returns-2
-    hand-over-requires
-    same-length-3
-    returns-3
-    request-of-requires
-    count-of-requires
-    loop-holds
-    mul-c
-    element-copy-out-c
-    cast-if4
-    loop-less
-    loop-again
-    add-i
-    loop-less-2
-    loop-again-2
-    place-below-requires
-    mul-c-2
-    element-copy-out-c-2
-    change-of-requires
-    mul-channel
-    element-set-from-channel
-    same-length-4
-    returns-4)
+    Inv-loop μ-loop (λ c κs. search needs) sub-plan part-plan-start (λ c. search needs) (λ c κs. search needs)
+    (λ c. search needs) returns (λ c κs. search needs) (λ c. search needs) returns-2 (λ c κs. search needs)
+    (λ c. search needs) returns-3 (λ c κs. search needs) (λ c κs. search needs) loop-holds (λ c. search needs)
+    (λ c. search needs) (λ c. search needs) (λ c. search needs) loop-again (λ c. search needs) (λ c. search needs)
+    loop-again-2 (λ c κs. search needs) (λ c. search needs) (λ c. search needs) (λ c κs. search needs)
+    (λ c. search needs) (λ c. search needs) (λ c. search needs) returns-4)

@@ -23,9 +23,6 @@ use borrow.Author.Needs.{needs}
 use Rattle.line_set.proofs.plan.plan.Statement.{statement}
 use Rattle.line_set.proofs.plan.plan.Tie as tie
 
-refuse-requires : tie.Need-refuse-requires
-refuse-requires c κs = search needs
-
 returns : tie.Need-returns
 returns c =
     let st = c .before .before .before .before in
@@ -33,12 +30,6 @@ returns c =
     let p = now (st .args .bytes) in
     let b = now (st .args .buffer) in
     gives-as (plan-present s p (length b) (c .before .if1 .taken)) (refused s 5 b (c .refuse .ensures))
-
-read-plan-requires : tie.Need-read-plan-requires
-read-plan-requires c κs = search needs
-
-refuse-requires-2 : tie.Need-refuse-requires-2
-refuse-requires-2 c κs = search needs
 
 returns-2 : tie.Need-returns-2
 returns-2 c =
@@ -48,15 +39,6 @@ returns-2 c =
     let b = now (st .args .buffer) in
     let ok : planOk p ≡ false = sym (plan-ok p) ∙ sym (ap (λ (x : Plan). x .ok) (c .before .before .before .read-plan .ensures)) ∙ not-true _ (c .before .if2 .taken) in
     gives-as (plan-bad s p (length b) (c .before .before .before .before .if1 .left) ok) (refused s 6 b (c .refuse2 .ensures))
-
-first-desks-requires : tie.Need-first-desks-requires
-first-desks-requires c κs = search needs
-
-space-to-requires : tie.Need-space-to-requires
-space-to-requires c κs = search needs
-
-refuse-requires-3 : tie.Need-refuse-requires-3
-refuse-requires-3 c κs = search needs
 
 returns-3 : tie.Need-returns-3
 returns-3 c =
@@ -74,9 +56,6 @@ put-to-requires : tie.Need-put-to-requires
 put-to-requires c κs =
     let v = delivery (c .before .before .before .first-desks .result) TimeRequest ∷ [] in
     omega (arith, c .before .before .space-to .ensures .0, space-length (c .before .before .before .before .before .before .before .before .read-plan .result .set .desks) v (λ k. refl, tt), c .before .if3 .left)
-
-same-length : tie.Need-same-length
-same-length c = search needs
 
 returns-4 : tie.Need-returns-4
 returns-4 c =
@@ -97,15 +76,5 @@ pub plan-spec : {M : Type 1} → statement M
 plan-spec =
     tie.close
     (tie.spec
-    refuse-requires
-    returns
-    read-plan-requires
-    refuse-requires-2
-    returns-2
-    first-desks-requires
-    space-to-requires
-    refuse-requires-3
-    returns-3
-    put-to-requires
-    same-length
-    returns-4)
+    (λ c κs. search needs) returns (λ c κs. search needs) (λ c κs. search needs) returns-2 (λ c κs. search needs)
+    (λ c κs. search needs) (λ c κs. search needs) returns-3 put-to-requires (λ c. search needs) returns-4)

@@ -5,12 +5,6 @@ use mathlib.Core.Path.{refl}
 use Rattle.lines.proofs.choices.kind_of.Statement.{statement}
 use Rattle.lines.proofs.choices.kind_of.Tie as tie
 
-enum-told : tie.Need-enum-told
-enum-told c = search needs
-
-enum-known-call : tie.Need-enum-known-call
-enum-known-call c = search needs
-
 returns : tie.Need-returns
 returns c = search needs
 
@@ -18,4 +12,4 @@ returns-2 : tie.Need-returns-2
 returns-2 c = rw (c .before .call .given .1) refl
 
 pub kind-of-spec : {M : Type 1} → statement M
-kind-of-spec = tie.close (tie.spec enum-told enum-known-call returns returns-2)
+kind-of-spec = tie.close (tie.spec (λ c. search needs) (λ c. search needs) returns returns-2)

@@ -9,18 +9,6 @@ use Rattle.lines.proofs.holding.capture.Tie as tie
 enum-told : tie.Need-enum-told
 enum-told c = search needs
 
-captured-requires : tie.Need-captured-requires
-captured-requires c κs = search needs
-
-enum-known-holder : tie.Need-enum-known-holder
-enum-known-holder c = search needs
-
-replied-requires : tie.Need-replied-requires
-replied-requires c κs = search needs
-
-replied-requires-2 : tie.Need-replied-requires-2
-replied-requires-2 c κs = search needs
-
 returns : tie.Need-returns
 unfolding capture
 returns c = simp (c .before .enum-told .given .1) (c .captured .ensures)
@@ -37,11 +25,5 @@ pub capture-spec : {M : Type 1} → statement M
 capture-spec =
     tie.close
     (tie.spec
-    enum-told
-    captured-requires
-    enum-known-holder
-    replied-requires
-    replied-requires-2
-    returns
-    returns-2
-    returns-3)
+    enum-told (λ c κs. search needs) (λ c. search needs) (λ c κs. search needs) (λ c κs. search needs) returns
+    returns-2 returns-3)

@@ -6,12 +6,9 @@ use Rattle.lines.specs.Scripts.{heard}
 use Rattle.lines.proofs.holding.captured.Statement.{statement}
 use Rattle.lines.proofs.holding.captured.Tie as tie
 
-reply-requires : tie.Need-reply-requires
-reply-requires c κs = search needs
-
 returns : tie.Need-returns
 unfolding heard
 returns c = (refl, simp (c .reply .ensures) refl)
 
 pub captured-spec : {M : Type 1} → statement M
-captured-spec = tie.close (tie.spec reply-requires returns)
+captured-spec = tie.close (tie.spec (λ c κs. search needs) returns)

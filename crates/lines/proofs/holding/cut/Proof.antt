@@ -5,12 +5,9 @@ use Rattle.lines.specs.Scripts.{heard}
 use Rattle.lines.proofs.holding.cut.Statement.{statement}
 use Rattle.lines.proofs.holding.cut.Tie as tie
 
-cut-after-requires : tie.Need-cut-after-requires
-cut-after-requires c κs = search needs
-
 returns : tie.Need-returns
 unfolding heard
 returns c = c .cut-after .ensures
 
 pub cut-spec : {M : Type 1} → statement M
-cut-spec = tie.close (tie.spec cut-after-requires returns)
+cut-spec = tie.close (tie.spec (λ c κs. search needs) returns)

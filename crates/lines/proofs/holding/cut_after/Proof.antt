@@ -7,21 +7,6 @@ use Rattle.lines.proofs.Scripts.{send-by-send, heard-when-two}
 use Rattle.lines.proofs.holding.cut_after.Statement.{statement}
 use Rattle.lines.proofs.holding.cut_after.Tie as tie
 
-holder-set-requires : tie.Need-holder-set-requires
-holder-set-requires c κs = search needs
-
-set-if-requires : tie.Need-set-if-requires
-set-if-requires c κs = search needs
-
-press-sends-requires : tie.Need-press-sends-requires
-press-sends-requires c κs = search needs
-
-end-requires : tie.Need-end-requires
-end-requires c κs = search needs
-
-freed-requires : tie.Need-freed-requires
-freed-requires c κs = search needs
-
 returns : tie.Need-returns
 unfolding cut
 returns c =
@@ -36,9 +21,5 @@ pub cut-after-spec : {M : Type 1} → statement M
 cut-after-spec =
     tie.close
     (tie.spec
-    holder-set-requires
-    set-if-requires
-    press-sends-requires
-    end-requires
-    freed-requires
+    (λ c κs. search needs) (λ c κs. search needs) (λ c κs. search needs) (λ c κs. search needs) (λ c κs. search needs)
     returns)

@@ -6,18 +6,6 @@ use Rattle.line_rules.specs.Rules.{release}
 use Rattle.lines.proofs.holding.release.Statement.{statement}
 use Rattle.lines.proofs.holding.release.Tie as tie
 
-held-by-requires : tie.Need-held-by-requires
-held-by-requires c κs = search needs
-
-reply-requires : tie.Need-reply-requires
-reply-requires c κs = search needs
-
-cut-after-requires : tie.Need-cut-after-requires
-cut-after-requires c κs = search needs
-
-replied-requires : tie.Need-replied-requires
-replied-requires c κs = search needs
-
 returns : tie.Need-returns
 unfolding release
 returns c =
@@ -31,9 +19,4 @@ pub release-spec : {M : Type 1} → statement M
 release-spec =
     tie.close
     (tie.spec
-    held-by-requires
-    reply-requires
-    cut-after-requires
-    replied-requires
-    returns
-    returns-2)
+    (λ c κs. search needs) (λ c κs. search needs) (λ c κs. search needs) (λ c κs. search needs) returns returns-2)

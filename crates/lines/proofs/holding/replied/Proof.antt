@@ -4,14 +4,8 @@ use borrow.Author.Needs.{needs}
 use Rattle.lines.proofs.holding.replied.Statement.{statement}
 use Rattle.lines.proofs.holding.replied.Tie as tie
 
-reply-requires : tie.Need-reply-requires
-reply-requires c κs = search needs
-
-alone-requires : tie.Need-alone-requires
-alone-requires c κs = search needs
-
 returns : tie.Need-returns
 returns c = rw (c .before .reply .ensures) at (c .alone .ensures)
 
 pub replied-spec : {M : Type 1} → statement M
-replied-spec = tie.close (tie.spec reply-requires alone-requires returns)
+replied-spec = tie.close (tie.spec (λ c κs. search needs) (λ c κs. search needs) returns)

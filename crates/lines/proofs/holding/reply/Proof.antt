@@ -5,11 +5,8 @@ use mathlib.Core.Path.{refl}
 use Rattle.lines.proofs.holding.reply.Statement.{statement}
 use Rattle.lines.proofs.holding.reply.Tie as tie
 
-only-requires : tie.Need-only-requires
-only-requires c κs = search needs
-
 returns : tie.Need-returns
 returns c = rw (c .only .ensures) refl
 
 pub reply-spec : {M : Type 1} → statement M
-reply-spec = tie.close (tie.spec only-requires returns)
+reply-spec = tie.close (tie.spec (λ c κs. search needs) returns)

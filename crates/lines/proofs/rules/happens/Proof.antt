@@ -5,59 +5,8 @@ use Rattle.line_rules.specs.Rules.{happens, pressOn, pressOff, mobileOn}
 use Rattle.lines.proofs.rules.happens.Statement.{statement}
 use Rattle.lines.proofs.rules.happens.Tie as tie
 
-enum-known-event : tie.Need-enum-known-event
-enum-known-event c = search needs
-
-capture-requires : tie.Need-capture-requires
-capture-requires c κs = search needs
-
-enum-known-event-2 : tie.Need-enum-known-event-2
-enum-known-event-2 c = search needs
-
-release-requires : tie.Need-release-requires
-release-requires c κs = search needs
-
 enum-told : tie.Need-enum-told
 enum-told c = search needs
-
-cut-requires : tie.Need-cut-requires
-cut-requires c κs = search needs
-
-enum-told-2 : tie.Need-enum-told-2
-enum-told-2 c = search needs
-
-press-on-requires : tie.Need-press-on-requires
-press-on-requires c κs = search needs
-
-enum-told-3 : tie.Need-enum-told-3
-enum-told-3 c = search needs
-
-press-off-requires : tie.Need-press-off-requires
-press-off-requires c κs = search needs
-
-enum-known-event-3 : tie.Need-enum-known-event-3
-enum-known-event-3 c = search needs
-
-mobile-on-requires : tie.Need-mobile-on-requires
-mobile-on-requires c κs = search needs
-
-enum-told-4 : tie.Need-enum-told-4
-enum-told-4 c = search needs
-
-mobile-off-requires : tie.Need-mobile-off-requires
-mobile-off-requires c κs = search needs
-
-enum-told-5 : tie.Need-enum-told-5
-enum-told-5 c = search needs
-
-tick-requires : tie.Need-tick-requires
-tick-requires c κs = search needs
-
-enum-told-6 : tie.Need-enum-told-6
-enum-told-6 c = search needs
-
-handover-requires : tie.Need-handover-requires
-handover-requires c κs = search needs
 
 returns : tie.Need-returns
 unfolding happens
@@ -99,30 +48,8 @@ pub happens-spec : {M : Type 1} → statement M
 happens-spec =
     tie.close
     (tie.spec
-    enum-known-event
-    capture-requires
-    enum-known-event-2
-    release-requires
-    enum-told
-    cut-requires
-    enum-told-2
-    press-on-requires
-    enum-told-3
-    press-off-requires
-    enum-known-event-3
-    mobile-on-requires
-    enum-told-4
-    mobile-off-requires
-    enum-told-5
-    tick-requires
-    enum-told-6
-    handover-requires
-    returns
-    returns-2
-    returns-3
-    returns-4
-    returns-5
-    returns-6
-    returns-7
-    returns-8
-    returns-9)
+    (λ c. search needs) (λ c κs. search needs) (λ c. search needs) (λ c κs. search needs) enum-told
+    (λ c κs. search needs) (λ c. search needs) (λ c κs. search needs) (λ c. search needs) (λ c κs. search needs)
+    (λ c. search needs) (λ c κs. search needs) (λ c. search needs) (λ c κs. search needs) (λ c. search needs)
+    (λ c κs. search needs) (λ c. search needs) (λ c κs. search needs) returns returns-2 returns-3 returns-4 returns-5
+    returns-6 returns-7 returns-8 returns-9)

@@ -10,39 +10,6 @@ use Rattle.lines.proofs.rules.sends_any.Tie as tie
 enum-told : tie.Need-enum-told
 enum-told c = search needs
 
-enum-told-2 : tie.Need-enum-told-2
-enum-told-2 c = search needs
-
-enum-told-3 : tie.Need-enum-told-3
-enum-told-3 c = search needs
-
-enum-told-4 : tie.Need-enum-told-4
-enum-told-4 c = search needs
-
-enum-told-5 : tie.Need-enum-told-5
-enum-told-5 c = search needs
-
-enum-told-6 : tie.Need-enum-told-6
-enum-told-6 c = search needs
-
-enum-told-7 : tie.Need-enum-told-7
-enum-told-7 c = search needs
-
-is-present-requires : tie.Need-is-present-requires
-is-present-requires c κs = search needs
-
-enum-told-8 : tie.Need-enum-told-8
-enum-told-8 c = search needs
-
-tick-sends-any-requires : tie.Need-tick-sends-any-requires
-tick-sends-any-requires c κs = search needs
-
-enum-told-9 : tie.Need-enum-told-9
-enum-told-9 c = search needs
-
-handover-sends-any-requires : tie.Need-handover-sends-any-requires
-handover-sends-any-requires c κs = search needs
-
 returns : tie.Need-returns
 unfolding happens
 returns c x = rw (c .enum-told .given .1) (sym (any-capture x _ _))
@@ -83,24 +50,6 @@ pub sends-any-spec : {M : Type 1} → statement M
 sends-any-spec =
     tie.close
     (tie.spec
-    enum-told
-    enum-told-2
-    enum-told-3
-    enum-told-4
-    enum-told-5
-    enum-told-6
-    enum-told-7
-    is-present-requires
-    enum-told-8
-    tick-sends-any-requires
-    enum-told-9
-    handover-sends-any-requires
-    returns
-    returns-2
-    returns-3
-    returns-4
-    returns-5
-    returns-6
-    returns-7
-    returns-8
-    returns-9)
+    enum-told (λ c. search needs) (λ c. search needs) (λ c. search needs) (λ c. search needs) (λ c. search needs)
+    (λ c. search needs) (λ c κs. search needs) (λ c. search needs) (λ c κs. search needs) (λ c. search needs)
+    (λ c κs. search needs) returns returns-2 returns-3 returns-4 returns-5 returns-6 returns-7 returns-8 returns-9)

@@ -5,11 +5,8 @@ use mathlib.Core.Path.{refl}
 use Rattle.lines.proofs.sends.freed.Statement.{statement}
 use Rattle.lines.proofs.sends.freed.Tie as tie
 
-holder-place-requires : tie.Need-holder-place-requires
-holder-place-requires c κs = search needs
-
 returns : tie.Need-returns
 returns c = rw (c .holder-place .ensures) refl
 
 pub freed-spec : {M : Type 1} → statement M
-freed-spec = tie.close (tie.spec holder-place-requires returns)
+freed-spec = tie.close (tie.spec (λ c κs. search needs) returns)

@@ -9,15 +9,6 @@ use Rattle.lines.proofs.sends.mobile_off_sends.Tie as tie
 enum-told : tie.Need-enum-told
 enum-told c = search needs
 
-mobile-sends-requires : tie.Need-mobile-sends-requires
-mobile-sends-requires c κs = search needs
-
-enum-known-arrival : tie.Need-enum-known-arrival
-enum-known-arrival c = search needs
-
-mobile-sends-requires-2 : tie.Need-mobile-sends-requires-2
-mobile-sends-requires-2 c κs = search needs
-
 returns : tie.Need-returns
 unfolding heard
 returns c = let e = c .mobile-sends .ensures in simp (e .0, e .1 .0, e .1 .1, c .before .enum-told .given .1) refl
@@ -27,11 +18,4 @@ returns-2 c = let e = c .mobile-sends2 .ensures in simp (e .0, e .1 .0, e .1 .1,
 
 pub mobile-off-sends-spec : {M : Type 1} → statement M
 mobile-off-sends-spec =
-    tie.close
-    (tie.spec
-    enum-told
-    mobile-sends-requires
-    enum-known-arrival
-    mobile-sends-requires-2
-    returns
-    returns-2)
+    tie.close (tie.spec enum-told (λ c κs. search needs) (λ c. search needs) (λ c κs. search needs) returns returns-2)

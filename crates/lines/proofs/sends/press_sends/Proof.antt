@@ -5,11 +5,8 @@ use mathlib.Core.Path.{refl}
 use Rattle.lines.proofs.sends.press_sends.Statement.{statement}
 use Rattle.lines.proofs.sends.press_sends.Tie as tie
 
-kind-of-requires : tie.Need-kind-of-requires
-kind-of-requires c κs = search needs
-
 returns : tie.Need-returns
 returns c = (refl, rw (c .kind-of .ensures) refl)
 
 pub press-sends-spec : {M : Type 1} → statement M
-press-sends-spec = tie.close (tie.spec kind-of-requires returns)
+press-sends-spec = tie.close (tie.spec (λ c κs. search needs) returns)

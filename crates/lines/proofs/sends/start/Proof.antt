@@ -9,9 +9,6 @@ use Rattle.lines.proofs.sends.start.Tie as tie
 enum-told : tie.Need-enum-told
 enum-told c = search needs
 
-enum-known-call : tie.Need-enum-known-call
-enum-known-call c = search needs
-
 returns : tie.Need-returns
 unfolding heard
 returns c = rw (c .enum-told .given .1) refl
@@ -20,4 +17,4 @@ returns-2 : tie.Need-returns-2
 returns-2 c = rw (c .before .call .given .1) refl
 
 pub start-spec : {M : Type 1} → statement M
-start-spec = tie.close (tie.spec enum-told enum-known-call returns returns-2)
+start-spec = tie.close (tie.spec enum-told (λ c. search needs) returns returns-2)

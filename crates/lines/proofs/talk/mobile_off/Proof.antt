@@ -7,15 +7,6 @@ use Rattle.lines.proofs.Scripts.{send-by-send}
 use Rattle.lines.proofs.talk.mobile_off.Statement.{statement}
 use Rattle.lines.proofs.talk.mobile_off.Tie as tie
 
-mobile-off-sends-requires : tie.Need-mobile-off-sends-requires
-mobile-off-sends-requires c κs = search needs
-
-quiet-after-mobile-requires : tie.Need-quiet-after-mobile-requires
-quiet-after-mobile-requires c κs = search needs
-
-release-after-requires : tie.Need-release-after-requires
-release-after-requires c κs = search needs
-
 returns : tie.Need-returns
 unfolding mobileOff
 returns c = (
@@ -24,6 +15,4 @@ returns c = (
 )
 
 pub mobile-off-spec : {M : Type 1} → statement M
-mobile-off-spec =
-    tie.close
-    (tie.spec mobile-off-sends-requires quiet-after-mobile-requires release-after-requires returns)
+mobile-off-spec = tie.close (tie.spec (λ c κs. search needs) (λ c κs. search needs) (λ c κs. search needs) returns)

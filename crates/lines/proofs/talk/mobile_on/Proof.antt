@@ -7,27 +7,6 @@ use Rattle.lines.proofs.Scripts.{send-by-send}
 use Rattle.lines.proofs.talk.mobile_on.Statement.{statement}
 use Rattle.lines.proofs.talk.mobile_on.Tie as tie
 
-mobile-recipients-requires : tie.Need-mobile-recipients-requires
-mobile-recipients-requires c κs = search needs
-
-kind-of-requires : tie.Need-kind-of-requires
-kind-of-requires c κs = search needs
-
-new-call-requires : tie.Need-new-call-requires
-new-call-requires c κs = search needs
-
-mobile-sends-requires : tie.Need-mobile-sends-requires
-mobile-sends-requires c κs = search needs
-
-opening-requires : tie.Need-opening-requires
-opening-requires c κs = search needs
-
-opened-by-requires : tie.Need-opened-by-requires
-opened-by-requires c κs = search needs
-
-release-after-requires : tie.Need-release-after-requires
-release-after-requires c κs = search needs
-
 returns : tie.Need-returns
 unfolding mobileOn
 returns c =
@@ -43,11 +22,5 @@ pub mobile-on-spec : {M : Type 1} → statement M
 mobile-on-spec =
     tie.close
     (tie.spec
-    mobile-recipients-requires
-    kind-of-requires
-    new-call-requires
-    mobile-sends-requires
-    opening-requires
-    opened-by-requires
-    release-after-requires
-    returns)
+    (λ c κs. search needs) (λ c κs. search needs) (λ c κs. search needs) (λ c κs. search needs) (λ c κs. search needs)
+    (λ c κs. search needs) (λ c κs. search needs) returns)

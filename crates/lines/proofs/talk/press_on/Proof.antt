@@ -7,21 +7,6 @@ use Rattle.lines.proofs.Scripts.{send-by-send}
 use Rattle.lines.proofs.talk.press_on.Statement.{statement}
 use Rattle.lines.proofs.talk.press_on.Tie as tie
 
-holder-set-requires : tie.Need-holder-set-requires
-holder-set-requires c κs = search needs
-
-new-call-requires : tie.Need-new-call-requires
-new-call-requires c κs = search needs
-
-press-sends-requires : tie.Need-press-sends-requires
-press-sends-requires c κs = search needs
-
-opening-requires : tie.Need-opening-requires
-opening-requires c κs = search needs
-
-opened-by-requires : tie.Need-opened-by-requires
-opened-by-requires c κs = search needs
-
 returns : tie.Need-returns
 unfolding pressOn
 returns c =
@@ -36,9 +21,5 @@ pub press-on-spec : {M : Type 1} → statement M
 press-on-spec =
     tie.close
     (tie.spec
-    holder-set-requires
-    new-call-requires
-    press-sends-requires
-    opening-requires
-    opened-by-requires
+    (λ c κs. search needs) (λ c κs. search needs) (λ c κs. search needs) (λ c κs. search needs) (λ c κs. search needs)
     returns)

@@ -7,12 +7,6 @@ use Rattle.timers.specs.Falls.{runOut}
 use Rattle.lines.proofs.ticking.run_out_send.Statement.{statement}
 use Rattle.lines.proofs.ticking.run_out_send.Tie as tie
 
-end-requires : tie.Need-end-requires
-end-requires c κs = search needs
-
-freed-requires : tie.Need-freed-requires
-freed-requires c κs = search needs
-
 returns : tie.Need-returns
 unfolding runOut
 returns c = simp (lt-ltb _ _ (c .before .if1 .taken)) (c .end .ensures)
@@ -22,4 +16,4 @@ unfolding runOut
 returns-2 c = simp (le-ltb _ _ (c .before .if1 .left), c .freed .ensures) refl
 
 pub run-out-send-spec : {M : Type 1} → statement M
-run-out-send-spec = tie.close (tie.spec end-requires freed-requires returns returns-2)
+run-out-send-spec = tie.close (tie.spec (λ c κs. search needs) (λ c κs. search needs) returns returns-2)

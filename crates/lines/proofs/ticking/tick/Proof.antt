@@ -5,17 +5,8 @@ use mathlib.Core.Path.{_∙_}
 use Rattle.lines.proofs.ticking.tick.Statement.{statement}
 use Rattle.lines.proofs.ticking.tick.Tie as tie
 
-tick-send-requires : tie.Need-tick-send-requires
-tick-send-requires c κs = search needs
-
-ticked-requires : tie.Need-ticked-requires
-ticked-requires c κs = search needs
-
-alone-requires : tie.Need-alone-requires
-alone-requires c κs = search needs
-
 returns : tie.Need-returns
 returns c = (c .alone .ensures .0 ∙ c .before .ticked .ensures _, c .alone .ensures .1 ∙ c .before .before .tick-send .ensures)
 
 pub tick-spec : {M : Type 1} → statement M
-tick-spec = tie.close (tie.spec tick-send-requires ticked-requires alone-requires returns)
+tick-spec = tie.close (tie.spec (λ c κs. search needs) (λ c κs. search needs) (λ c κs. search needs) returns)

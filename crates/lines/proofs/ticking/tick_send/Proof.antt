@@ -7,23 +7,8 @@ use Rattle.timers.proofs.Ticks.{tick-falling}
 use Rattle.lines.proofs.ticking.tick_send.Statement.{statement}
 use Rattle.lines.proofs.ticking.tick_send.Tie as tie
 
-falls-requires : tie.Need-falls-requires
-falls-requires c κs = search needs
-
 enum-told : tie.Need-enum-told
 enum-told c = search needs
-
-enum-told-2 : tie.Need-enum-told-2
-enum-told-2 c = search needs
-
-enum-told-3 : tie.Need-enum-told-3
-enum-told-3 c = search needs
-
-enum-told-4 : tie.Need-enum-told-4
-enum-told-4 c = search needs
-
-run-out-send-requires : tie.Need-run-out-send-requires
-run-out-send-requires c κs = search needs
 
 returns : tie.Need-returns
 unfolding heard
@@ -44,13 +29,5 @@ pub tick-send-spec : {M : Type 1} → statement M
 tick-send-spec =
     tie.close
     (tie.spec
-    falls-requires
-    enum-told
-    enum-told-2
-    enum-told-3
-    enum-told-4
-    run-out-send-requires
-    returns
-    returns-2
-    returns-3
-    returns-4)
+    (λ c κs. search needs) enum-told (λ c. search needs) (λ c. search needs) (λ c. search needs)
+    (λ c κs. search needs) returns returns-2 returns-3 returns-4)

@@ -7,23 +7,8 @@ use Rattle.lines.proofs.Scripts.{any-run-out}
 use Rattle.lines.proofs.ticking.tick_sends_any.Statement.{statement}
 use Rattle.lines.proofs.ticking.tick_sends_any.Tie as tie
 
-falls-requires : tie.Need-falls-requires
-falls-requires c κs = search needs
-
 enum-told : tie.Need-enum-told
 enum-told c = search needs
-
-enum-told-2 : tie.Need-enum-told-2
-enum-told-2 c = search needs
-
-enum-told-3 : tie.Need-enum-told-3
-enum-told-3 c = search needs
-
-enum-told-4 : tie.Need-enum-told-4
-enum-told-4 c = search needs
-
-is-open-requires : tie.Need-is-open-requires
-is-open-requires c κs = search needs
 
 returns : tie.Need-returns
 returns c x = simp (tick-falling, sym (c .before .before .falls .ensures) ∙ c .enum-told .given .1) refl
@@ -41,13 +26,5 @@ pub tick-sends-any-spec : {M : Type 1} → statement M
 tick-sends-any-spec =
     tie.close
     (tie.spec
-    falls-requires
-    enum-told
-    enum-told-2
-    enum-told-3
-    enum-told-4
-    is-open-requires
-    returns
-    returns-2
-    returns-3
-    returns-4)
+    (λ c κs. search needs) enum-told (λ c. search needs) (λ c. search needs) (λ c. search needs)
+    (λ c κs. search needs) returns returns-2 returns-3 returns-4)

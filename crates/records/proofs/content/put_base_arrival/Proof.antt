@@ -10,11 +10,8 @@ use Rattle.records.proofs.content.put_base_arrival.Tie as tie
 put-base-arrival-requires : tie.Need-put-base-arrival-requires
 put-base-arrival-requires c κs = rw length-telegram at (c .before .before .pre)
 
-same-length : tie.Need-same-length
-same-length c = search needs
-
 returns : tie.Need-returns
 returns c = c .before .before .put-base-arrival .ensures .1 ∙ sym (written-over _ _ (c .before .before .before .before .before .pre))
 
 pub put-base-arrival-spec : {M : Type 1} → statement M
-put-base-arrival-spec = tie.close (tie.spec put-base-arrival-requires same-length returns)
+put-base-arrival-spec = tie.close (tie.spec put-base-arrival-requires (λ c. search needs) returns)

@@ -10,11 +10,8 @@ use Rattle.records.proofs.content.put_call.Tie as tie
 put-call-requires : tie.Need-put-call-requires
 put-call-requires c κs = rw length-telegram at (c .before .before .pre)
 
-same-length : tie.Need-same-length
-same-length c = search needs
-
 returns : tie.Need-returns
 returns c = c .before .before .put-call .ensures .1 ∙ sym (written-over _ _ (c .before .before .before .before .before .pre))
 
 pub put-call-spec : {M : Type 1} → statement M
-put-call-spec = tie.close (tie.spec put-call-requires same-length returns)
+put-call-spec = tie.close (tie.spec put-call-requires (λ c. search needs) returns)

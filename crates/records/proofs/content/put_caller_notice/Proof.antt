@@ -10,11 +10,8 @@ use Rattle.records.proofs.content.put_caller_notice.Tie as tie
 put-caller-notice-requires : tie.Need-put-caller-notice-requires
 put-caller-notice-requires c κs = rw length-telegram at (c .before .before .pre)
 
-same-length : tie.Need-same-length
-same-length c = search needs
-
 returns : tie.Need-returns
 returns c = c .before .before .put-caller-notice .ensures .1 ∙ sym (written-over _ _ (c .before .before .before .before .before .pre))
 
 pub put-caller-notice-spec : {M : Type 1} → statement M
-put-caller-notice-spec = tie.close (tie.spec put-caller-notice-requires same-length returns)
+put-caller-notice-spec = tie.close (tie.spec put-caller-notice-requires (λ c. search needs) returns)

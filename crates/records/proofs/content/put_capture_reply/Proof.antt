@@ -10,11 +10,8 @@ use Rattle.records.proofs.content.put_capture_reply.Tie as tie
 put-capture-reply-requires : tie.Need-put-capture-reply-requires
 put-capture-reply-requires c κs = rw length-telegram at (c .before .before .pre)
 
-same-length : tie.Need-same-length
-same-length c = search needs
-
 returns : tie.Need-returns
 returns c = c .before .before .put-capture-reply .ensures .1 ∙ sym (written-over _ _ (c .before .before .before .before .before .pre))
 
 pub put-capture-reply-spec : {M : Type 1} → statement M
-put-capture-reply-spec = tie.close (tie.spec put-capture-reply-requires same-length returns)
+put-capture-reply-spec = tie.close (tie.spec put-capture-reply-requires (λ c. search needs) returns)

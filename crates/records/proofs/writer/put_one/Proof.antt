@@ -17,23 +17,11 @@ fits : (c : tie.Then1)
     → c .before .before .args .at + length (recordFor (c .before .before .args .desks) (c .before .before .args .d) (bodyFor (c .before .before .args .d) (c .before .before .args .body))) ≤ length (now (c .before .before .args .buffer))
 fits c = rw (one-taken _ _ _ _ (c .if1 .taken)) at (c .before .before .pre)
 
-sub-put-record : tie.Need-sub-put-record
-sub-put-record c = search needs
-
-part-put-record-start : tie.Need-part-put-record-start
-part-put-record-start c = search needs
-
-part-put-record-end : tie.Need-part-put-record-end
-part-put-record-end c = search needs
-
 put-record-requires : tie.Need-put-record-requires
 put-record-requires c κs = simp (length-take, length-drop) (omega (arith, fits (c .before)))
 
 add-result : tie.Need-add-result
 add-result c = omega (arith, fits (c .before .before .before .before), c .before .before .put-record .ensures .0)
-
-same-length : tie.Need-same-length
-same-length c = search needs
 
 returns : tie.Need-returns
 returns c =
@@ -48,11 +36,5 @@ pub put-one-spec : {M : Type 1} → statement M
 put-one-spec =
     tie.close
     (tie.spec
-    sub-put-record
-    part-put-record-start
-    part-put-record-end
-    put-record-requires
-    add-result
-    same-length
-    returns
-    returns-2)
+    (λ c. search needs) (λ c. search needs) (λ c. search needs) put-record-requires add-result (λ c. search needs)
+    returns returns-2)

@@ -46,15 +46,6 @@ fits c =
     let room-for : 0 + length (whole (entry c)) ≤ length (now (entry c .args .buffer)) = omega (arith, entry c .pre) in
     room (begun c) (last _) room-for
 
-record-size-requires : tie.Need-record-size-requires
-record-size-requires c κs = search needs
-
-kind-of-requires : tie.Need-kind-of-requires
-kind-of-requires c κs = search needs
-
-desk-at-requires : tie.Need-desk-at-requires
-desk-at-requires c κs = search needs
-
 sub-put-head : tie.Need-sub-put-head
 sub-put-head c = omega (arith, sized (c .before .before .before), size-least (content (c .before .before .before .before .before)))
 
@@ -70,14 +61,8 @@ sub-put-body c = omega (arith, fits c)
 part-put-body-start : tie.Need-part-put-body-start
 part-put-body-start c = omega (arith, fits c)
 
-part-put-body-end : tie.Need-part-put-body-end
-part-put-body-end c = search needs
-
 put-body-requires : tie.Need-put-body-requires
 put-body-requires c κs = simp (length-take, length-drop) (omega (arith, fits (c .before)))
-
-same-length : tie.Need-same-length
-same-length c = search needs
 
 returns : tie.Need-returns
 returns c =
@@ -92,14 +77,5 @@ pub put-record-spec : {M : Type 1} → statement M
 put-record-spec =
     tie.close
     (tie.spec
-    record-size-requires
-    kind-of-requires
-    desk-at-requires
-    sub-put-head
-    put-head-requires
-    sub-put-body
-    part-put-body-start
-    part-put-body-end
-    put-body-requires
-    same-length
-    returns)
+    (λ c κs. search needs) (λ c κs. search needs) (λ c κs. search needs) sub-put-head put-head-requires sub-put-body
+    part-put-body-start (λ c. search needs) put-body-requires (λ c. search needs) returns)

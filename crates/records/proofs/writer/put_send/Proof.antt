@@ -9,12 +9,6 @@ use borrow.Author.Needs.{needs}
 use Rattle.records.proofs.writer.put_send.Statement.{statement}
 use Rattle.records.proofs.writer.put_send.Tie as tie
 
-put-to-requires : tie.Need-put-to-requires
-put-to-requires c κs = search needs
-
-same-length : tie.Need-same-length
-same-length c = search needs
-
 returns : tie.Need-returns
 returns c = search needs
 
@@ -24,4 +18,4 @@ returns-2 c =
     done (start _ _ _) (records-one (a .desks) (deliveryOf (a .channel) (a .s)) ∙ nobody (a .desks) (deliveryOf (a .channel) (a .s)) (c .if1 .left))
 
 pub put-send-spec : {M : Type 1} → statement M
-put-send-spec = tie.close (tie.spec put-to-requires same-length returns returns-2)
+put-send-spec = tie.close (tie.spec (λ c κs. search needs) (λ c. search needs) returns returns-2)

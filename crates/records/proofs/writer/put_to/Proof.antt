@@ -33,9 +33,6 @@ put-one-requires c κs =
 add-d : tie.Need-add-d Inv-loop μ-loop
 add-d c = let l = c .before .before .before .before .before .loop in omega (arith, place-left (l .d) (l .m) (c .before .before .before .before .loop-test .taken) (l .inv .2) .0)
 
-loop-less : tie.Need-loop-less Inv-loop μ-loop
-loop-less c = omega arith
-
 loop-again : tie.Need-loop-again Inv-loop μ-loop
 loop-again c =
     let l = c .before .before .before .before .before .loop in
@@ -58,12 +55,4 @@ pub put-to-spec : {M : Type 1} → statement M
 put-to-spec =
     tie.close
     (tie.spec
-    Inv-loop
-    μ-loop
-    loop-holds
-    put-one-requires
-    add-d
-    loop-less
-    loop-again
-    same-length
-    returns)
+    Inv-loop μ-loop loop-holds put-one-requires add-d (λ c. omega arith) loop-again same-length returns)

@@ -7,12 +7,6 @@ use lib.Seq.{length-take-le}
 use Rattle.replay.proofs.lines.put_answer.Statement.{statement}
 use Rattle.replay.proofs.lines.put_answer.Tie as tie
 
-put-entry-requires : tie.Need-put-entry-requires
-put-entry-requires c κs = search needs
-
-same-length : tie.Need-same-length
-same-length c = search needs
-
 returns : tie.Need-returns
 returns c = search needs
 
@@ -22,9 +16,6 @@ slice-aggregate-put-records c = sym (length-take-le (c .before .before .before .
 put-records-requires : tie.Need-put-records-requires
 put-records-requires c κs = let t = length-take-le (c .before .before .before .before .before .before .before .before .before .args .count) (c .before .before .before .before .before .before .before .before .before .args .buffer .now) (omega arith) in omega arith
 
-same-length-2 : tie.Need-same-length-2
-same-length-2 c = search needs
-
 returns-2 : tie.Need-returns-2
 returns-2 c = search needs
 
@@ -32,10 +23,5 @@ pub put-answer-spec : {M : Type 1} → statement M
 put-answer-spec =
     tie.close
     (tie.spec
-    put-entry-requires
-    same-length
-    returns
-    slice-aggregate-put-records
-    put-records-requires
-    same-length-2
-    returns-2)
+    (λ c κs. search needs) (λ c. search needs) returns slice-aggregate-put-records put-records-requires
+    (λ c. search needs) returns-2)

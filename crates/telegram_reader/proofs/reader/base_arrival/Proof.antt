@@ -4,24 +4,6 @@ use borrow.Author.Needs.{needs}
 use Rattle.telegram_reader.proofs.reader.base_arrival.Statement.{statement}
 use Rattle.telegram_reader.proofs.reader.base_arrival.Tie as tie
 
-array-read-new : tie.Need-array-read-new
-array-read-new c = search needs
-
-new-requires : tie.Need-new-requires
-new-requires c κs = search needs
-
-array-read-t6 : tie.Need-array-read-t6
-array-read-t6 c = search needs
-
-array-read-t11 : tie.Need-array-read-t11
-array-read-t11 c = search needs
-
-array-read-t14 : tie.Need-array-read-t14
-array-read-t14 c = search needs
-
-array-read-t17 : tie.Need-array-read-t17
-array-read-t17 c = search needs
-
 returns : tie.Need-returns
 returns c = rw (c .new .ensures)
 
@@ -29,10 +11,5 @@ pub base-arrival-spec : {M : Type 1} → statement M
 base-arrival-spec =
     tie.close
     (tie.spec
-    array-read-new
-    new-requires
-    array-read-t6
-    array-read-t11
-    array-read-t14
-    array-read-t17
-    returns)
+    (λ c. search needs) (λ c κs. search needs) (λ c. search needs) (λ c. search needs) (λ c. search needs)
+    (λ c. search needs) returns)

@@ -5,30 +5,6 @@ use borrow.Author.Needs.{needs}
 use Rattle.telegram_reader.proofs.reader.message_of.Statement.{statement}
 use Rattle.telegram_reader.proofs.reader.message_of.Tie as tie
 
-time-notice-requires : tie.Need-time-notice-requires
-time-notice-requires c κs = search needs
-
-operation-answer-requires : tie.Need-operation-answer-requires
-operation-answer-requires c κs = search needs
-
-base-arrival-requires : tie.Need-base-arrival-requires
-base-arrival-requires c κs = search needs
-
-call-requires : tie.Need-call-requires
-call-requires c κs = search needs
-
-caller-notice-requires : tie.Need-caller-notice-requires
-caller-notice-requires c κs = search needs
-
-capture-request-requires : tie.Need-capture-request-requires
-capture-request-requires c κs = search needs
-
-capture-reply-requires : tie.Need-capture-reply-requires
-capture-reply-requires c κs = search needs
-
-capture-state-requires : tie.Need-capture-state-requires
-capture-state-requires c κs = search needs
-
 returns : tie.Need-returns
 returns c = rw (c .before .match .keys1) (c .time-notice .ensures)
 
@@ -68,22 +44,6 @@ pub message-of-spec : {M : Type 1} → statement M
 message-of-spec =
     tie.close
     (tie.spec
-    time-notice-requires
-    operation-answer-requires
-    base-arrival-requires
-    call-requires
-    caller-notice-requires
-    capture-request-requires
-    capture-reply-requires
-    capture-state-requires
-    returns
-    returns-2
-    returns-3
-    returns-4
-    returns-5
-    returns-6
-    returns-7
-    returns-8
-    returns-9
-    returns-10
-    returns-11)
+    (λ c κs. search needs) (λ c κs. search needs) (λ c κs. search needs) (λ c κs. search needs) (λ c κs. search needs)
+    (λ c κs. search needs) (λ c κs. search needs) (λ c κs. search needs) returns returns-2 returns-3 returns-4
+    returns-5 returns-6 returns-7 returns-8 returns-9 returns-10 returns-11)

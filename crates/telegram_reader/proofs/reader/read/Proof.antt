@@ -15,12 +15,6 @@ use borrow.Author.Needs.{needs}
 use Rattle.telegram_reader.proofs.reader.read.Statement.{statement}
 use Rattle.telegram_reader.proofs.reader.read.Tie as tie
 
-read-header-requires : tie.Need-read-header-requires
-read-header-requires c κs = search needs
-
-enum-known-h : tie.Need-enum-known-h
-enum-known-h c = search needs
-
 enum-told : tie.Need-enum-told
 enum-told c = search needs
 
@@ -28,23 +22,8 @@ returns : tie.Need-returns
 unfolding readTelegram
 returns c = rw (header-none _ (sym (c .before .before .read-header .ensures) ∙ c .enum-told .given .1))
 
-sub-read-digits : tie.Need-sub-read-digits
-sub-read-digits c = search needs
-
-part-read-digits-start : tie.Need-part-read-digits-start
-part-read-digits-start c = search needs
-
 part-read-digits-end : tie.Need-part-read-digits-end
 part-read-digits-end c = header-long _ _ (sym (c .before .before .before .read-header .ensures) ∙ c .before .h .given .1)
-
-read-digits-requires : tie.Need-read-digits-requires
-read-digits-requires c κs = search needs
-
-enum-known-d : tie.Need-enum-known-d
-enum-known-d c = search needs
-
-enum-told-2 : tie.Need-enum-told-2
-enum-told-2 c = search needs
 
 returns-2 : tie.Need-returns-2
 unfolding readTelegram
@@ -64,12 +43,6 @@ sub-read-identified c = header-long _ _ (sym (c .before .before .before .before 
 part-read-identified-start : tie.Need-part-read-identified-start
 part-read-identified-start c = header-long _ _ (sym (c .before .before .before .before .before .before .before .before .read-header .ensures) ∙ c .before .before .before .before .before .before .h .given .1)
 
-part-read-identified-end : tie.Need-part-read-identified-end
-part-read-identified-end c = search needs
-
-read-identified-requires : tie.Need-read-identified-requires
-read-identified-requires c κs = search needs
-
 returns-3 : tie.Need-returns-3
 unfolding readTelegram
 returns-3 c =
@@ -83,19 +56,6 @@ pub read-spec : {M : Type 1} → statement M
 read-spec =
     tie.close
     (tie.spec
-    read-header-requires
-    enum-known-h
-    enum-told
-    returns
-    sub-read-digits
-    part-read-digits-start
-    part-read-digits-end
-    read-digits-requires
-    enum-known-d
-    enum-told-2
-    returns-2
-    sub-read-identified
-    part-read-identified-start
-    part-read-identified-end
-    read-identified-requires
-    returns-3)
+    (λ c κs. search needs) (λ c. search needs) enum-told returns (λ c. search needs) (λ c. search needs)
+    part-read-digits-end (λ c κs. search needs) (λ c. search needs) (λ c. search needs) returns-2 sub-read-identified
+    part-read-identified-start (λ c. search needs) (λ c κs. search needs) returns-3)

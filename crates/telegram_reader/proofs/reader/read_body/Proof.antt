@@ -5,69 +5,6 @@ use borrow.Author.Needs.{needs}
 use Rattle.telegram_reader.proofs.reader.read_body.Statement.{statement}
 use Rattle.telegram_reader.proofs.reader.read_body.Tie as tie
 
-slice-aggregate-read-fields : tie.Need-slice-aggregate-read-fields
-slice-aggregate-read-fields c = search needs
-
-read-fields-requires : tie.Need-read-fields-requires
-read-fields-requires c κs = search needs
-
-slice-aggregate-read-fields-2 : tie.Need-slice-aggregate-read-fields-2
-slice-aggregate-read-fields-2 c = search needs
-
-read-fields-requires-2 : tie.Need-read-fields-requires-2
-read-fields-requires-2 c κs = search needs
-
-slice-aggregate-read-fields-3 : tie.Need-slice-aggregate-read-fields-3
-slice-aggregate-read-fields-3 c = search needs
-
-read-fields-requires-3 : tie.Need-read-fields-requires-3
-read-fields-requires-3 c κs = search needs
-
-slice-aggregate-read-fields-4 : tie.Need-slice-aggregate-read-fields-4
-slice-aggregate-read-fields-4 c = search needs
-
-read-fields-requires-4 : tie.Need-read-fields-requires-4
-read-fields-requires-4 c κs = search needs
-
-slice-aggregate-read-fields-5 : tie.Need-slice-aggregate-read-fields-5
-slice-aggregate-read-fields-5 c = search needs
-
-read-fields-requires-5 : tie.Need-read-fields-requires-5
-read-fields-requires-5 c κs = search needs
-
-slice-aggregate-read-fields-6 : tie.Need-slice-aggregate-read-fields-6
-slice-aggregate-read-fields-6 c = search needs
-
-read-fields-requires-6 : tie.Need-read-fields-requires-6
-read-fields-requires-6 c κs = search needs
-
-slice-aggregate-read-fields-7 : tie.Need-slice-aggregate-read-fields-7
-slice-aggregate-read-fields-7 c = search needs
-
-read-fields-requires-7 : tie.Need-read-fields-requires-7
-read-fields-requires-7 c κs = search needs
-
-slice-aggregate-read-fields-8 : tie.Need-slice-aggregate-read-fields-8
-slice-aggregate-read-fields-8 c = search needs
-
-read-fields-requires-8 : tie.Need-read-fields-requires-8
-read-fields-requires-8 c κs = search needs
-
-slice-aggregate-read-fields-9 : tie.Need-slice-aggregate-read-fields-9
-slice-aggregate-read-fields-9 c = search needs
-
-read-fields-requires-9 : tie.Need-read-fields-requires-9
-read-fields-requires-9 c κs = search needs
-
-slice-aggregate-read-fields-10 : tie.Need-slice-aggregate-read-fields-10
-slice-aggregate-read-fields-10 c = search needs
-
-read-fields-requires-10 : tie.Need-read-fields-requires-10
-read-fields-requires-10 c κs = search needs
-
-no-fields-requires : tie.Need-no-fields-requires
-no-fields-requires c κs = search needs
-
 returns : tie.Need-returns
 returns c = rw (c .before .before .match .keys1) (c .read-fields .ensures)
 
@@ -107,35 +44,9 @@ pub read-body-spec : {M : Type 1} → statement M
 read-body-spec =
     tie.close
     (tie.spec
-    slice-aggregate-read-fields
-    read-fields-requires
-    slice-aggregate-read-fields-2
-    read-fields-requires-2
-    slice-aggregate-read-fields-3
-    read-fields-requires-3
-    slice-aggregate-read-fields-4
-    read-fields-requires-4
-    slice-aggregate-read-fields-5
-    read-fields-requires-5
-    slice-aggregate-read-fields-6
-    read-fields-requires-6
-    slice-aggregate-read-fields-7
-    read-fields-requires-7
-    slice-aggregate-read-fields-8
-    read-fields-requires-8
-    slice-aggregate-read-fields-9
-    read-fields-requires-9
-    slice-aggregate-read-fields-10
-    read-fields-requires-10
-    no-fields-requires
-    returns
-    returns-2
-    returns-3
-    returns-4
-    returns-5
-    returns-6
-    returns-7
-    returns-8
-    returns-9
-    returns-10
-    returns-11)
+    (λ c. search needs) (λ c κs. search needs) (λ c. search needs) (λ c κs. search needs) (λ c. search needs)
+    (λ c κs. search needs) (λ c. search needs) (λ c κs. search needs) (λ c. search needs) (λ c κs. search needs)
+    (λ c. search needs) (λ c κs. search needs) (λ c. search needs) (λ c κs. search needs) (λ c. search needs)
+    (λ c κs. search needs) (λ c. search needs) (λ c κs. search needs) (λ c. search needs) (λ c κs. search needs)
+    (λ c κs. search needs) returns returns-2 returns-3 returns-4 returns-5 returns-6 returns-7 returns-8 returns-9
+    returns-10 returns-11)

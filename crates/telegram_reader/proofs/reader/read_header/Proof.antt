@@ -17,46 +17,19 @@ returns : tie.Need-returns
 unfolding headerOk
 returns c = simp (lt-leb _ _ (c .if1 .taken))
 
-shared-slice-read-if2 : tie.Need-shared-slice-read-if2
-shared-slice-read-if2 c = search needs
-
 returns-2 : tie.Need-returns-2
 unfolding headerOk
 returns-2 c = simp (le-leb _ _ (c .before .before .if1 .left), ne-eqb _ _ (c .if2 .taken))
 
-shared-slice-read-if3 : tie.Need-shared-slice-read-if3
-shared-slice-read-if3 c = search needs
-
 returns-3 : tie.Need-returns-3
 unfolding headerOk
 returns-3 c = simp (le-leb _ _ (c .before .before .before .before .if1 .left), eq-eqb _ _ (c .before .before .if2 .left), ne-eqb _ _ (c .if3 .taken))
-
-sub-read-fields : tie.Need-sub-read-fields
-sub-read-fields c = search needs
-
-part-read-fields-start : tie.Need-part-read-fields-start
-part-read-fields-start c = search needs
-
-part-read-fields-end : tie.Need-part-read-fields-end
-part-read-fields-end c = search needs
-
-slice-aggregate-read-fields : tie.Need-slice-aggregate-read-fields
-slice-aggregate-read-fields c = search needs
-
-read-fields-requires : tie.Need-read-fields-requires
-read-fields-requires c κs = search needs
 
 returns-4 : tie.Need-returns-4
 unfolding headerOk
 returns-4 c =
     let f = fields-none (length4 ∷ code ∷ []) _ _ (c .before .before .read-fields .ensures) (lit≤ tt) (not-true _ (c .if4 .taken)) in
     simp (le-leb _ _ (c .before .before .before .before .before .before .before .before .before .if1 .left), eq-eqb _ _ (c .before .before .before .before .before .before .before .if2 .left), eq-eqb _ _ (c .before .before .before .before .before .if3 .left), f)
-
-array-read-if5 : tie.Need-array-read-if5
-array-read-if5 c = search needs
-
-cast-if5 : tie.Need-cast-if5
-cast-if5 c = search needs
 
 returns-5 : tie.Need-returns-5
 unfolding headerOk valuesIn
@@ -66,9 +39,6 @@ returns-5 c =
     let v : nth (c .before .before .before .before .read-fields .result .values) 0 ≡ nth (heading s) 0 = rw (f .1) in
     let n : eqb (nth (heading s) 0) (length s) ≡ false = ne-eqb _ _ (λ q. c .if5 .taken (v ∙ q)) in
     simp (le-leb _ _ (c .before .before .before .before .before .before .before .before .before .before .before .if1 .left), eq-eqb _ _ (c .before .before .before .before .before .before .before .before .before .if2 .left), eq-eqb _ _ (c .before .before .before .before .before .before .before .if3 .left), f .0, n)
-
-array-read-t17 : tie.Need-array-read-t17
-array-read-t17 c = search needs
 
 returns-6 : tie.Need-returns-6
 unfolding headerOk valuesIn
@@ -83,19 +53,6 @@ pub read-header-spec : {M : Type 1} → statement M
 read-header-spec =
     tie.close
     (tie.spec
-    returns
-    shared-slice-read-if2
-    returns-2
-    shared-slice-read-if3
-    returns-3
-    sub-read-fields
-    part-read-fields-start
-    part-read-fields-end
-    slice-aggregate-read-fields
-    read-fields-requires
-    returns-4
-    array-read-if5
-    cast-if5
-    returns-5
-    array-read-t17
-    returns-6)
+    returns (λ c. search needs) returns-2 (λ c. search needs) returns-3 (λ c. search needs) (λ c. search needs)
+    (λ c. search needs) (λ c. search needs) (λ c κs. search needs) returns-4 (λ c. search needs) (λ c. search needs)
+    returns-5 (λ c. search needs) returns-6)

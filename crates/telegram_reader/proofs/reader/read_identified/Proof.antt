@@ -11,17 +11,11 @@ use borrow.Author.Needs.{needs}
 use Rattle.telegram_reader.proofs.reader.read_identified.Statement.{statement}
 use Rattle.telegram_reader.proofs.reader.read_identified.Tie as tie
 
-is-known-requires : tie.Need-is-known-requires
-is-known-requires c κs = search needs
-
 returns : tie.Need-returns
 returns c =
     let a = c .before .before .before .args in
     let k : knownIn table (a .identifier) ≡ false = sym (c .before .is-known .ensures) ∙ not-true _ (c .if1 .taken) in
     rw (read-steps (a .code) (a .identifier) (a .body .now), k)
-
-read-body-requires : tie.Need-read-body-requires
-read-body-requires c κs = search needs
 
 returns-2 : tie.Need-returns-2
 returns-2 c =
@@ -29,9 +23,6 @@ returns-2 c =
     let k : knownIn table (a .identifier) ≡ true = sym (c .before .before .before .before .is-known .ensures) ∙ not-false _ (c .before .before .before .if1 .left) in
     let o : bodyIn table (a .identifier) (a .body .now) .ok ≡ false = ap (λ (f : Fields). f .ok) (sym (c .before .before .read-body .ensures)) ∙ not-true _ (c .if2 .taken) in
     rw (read-steps (a .code) (a .identifier) (a .body .now), k, o)
-
-message-of-requires : tie.Need-message-of-requires
-message-of-requires c κs = search needs
 
 returns-3 : tie.Need-returns-3
 returns-3 c =
@@ -43,4 +34,5 @@ returns-3 c =
 pub read-identified-spec : {M : Type 1} → statement M
 read-identified-spec =
     tie.close
-    (tie.spec is-known-requires returns read-body-requires returns-2 message-of-requires returns-3)
+    (tie.spec
+    (λ c κs. search needs) returns (λ c κs. search needs) returns-2 (λ c κs. search needs) returns-3)

@@ -8,15 +8,6 @@ use borrow.Author.Needs.{needs}
 use Rattle.telegram_writer.proofs.digits.eight.Statement.{statement}
 use Rattle.telegram_writer.proofs.digits.eight.Tie as tie
 
-four-requires : tie.Need-four-requires
-four-requires c κs = search needs
-
-add-four : tie.Need-add-four
-add-four c = search needs
-
-four-requires-2 : tie.Need-four-requires-2
-four-requires-2 c κs = search needs
-
 returns : tie.Need-returns
 unfolding digitsOf
 returns c =
@@ -24,4 +15,4 @@ returns c =
     rw (c .four2 .ensures, c .before .four .ensures, p)
 
 pub eight-spec : {M : Type 1} → statement M
-eight-spec = tie.close (tie.spec four-requires add-four four-requires-2 returns)
+eight-spec = tie.close (tie.spec (λ c κs. search needs) (λ c. search needs) (λ c κs. search needs) returns)

@@ -8,39 +8,6 @@ use borrow.Author.Needs.{needs}
 use Rattle.telegram_writer.proofs.digits.four.Statement.{statement}
 use Rattle.telegram_writer.proofs.digits.four.Tie as tie
 
-digit-requires : tie.Need-digit-requires
-digit-requires c κs = search needs
-
-array-write-t : tie.Need-array-write-t
-array-write-t c = search needs
-
-digit-requires-2 : tie.Need-digit-requires-2
-digit-requires-2 c κs = search needs
-
-add-t : tie.Need-add-t
-add-t c = search needs
-
-array-write-t-2 : tie.Need-array-write-t-2
-array-write-t-2 c = search needs
-
-digit-requires-3 : tie.Need-digit-requires-3
-digit-requires-3 c κs = search needs
-
-add-t-2 : tie.Need-add-t-2
-add-t-2 c = search needs
-
-array-write-t-3 : tie.Need-array-write-t-3
-array-write-t-3 c = search needs
-
-digit-requires-4 : tie.Need-digit-requires-4
-digit-requires-4 c κs = search needs
-
-add-t-3 : tie.Need-add-t-3
-add-t-3 c = search needs
-
-array-write-t-4 : tie.Need-array-write-t-4
-array-write-t-4 c = search needs
-
 returns : tie.Need-returns
 unfolding digitsOf
 returns c =
@@ -53,15 +20,6 @@ pub four-spec : {M : Type 1} → statement M
 four-spec =
     tie.close
     (tie.spec
-    digit-requires
-    array-write-t
-    digit-requires-2
-    add-t
-    array-write-t-2
-    digit-requires-3
-    add-t-2
-    array-write-t-3
-    digit-requires-4
-    add-t-3
-    array-write-t-4
-    returns)
+    (λ c κs. search needs) (λ c. search needs) (λ c κs. search needs) (λ c. search needs) (λ c. search needs)
+    (λ c κs. search needs) (λ c. search needs) (λ c. search needs) (λ c κs. search needs) (λ c. search needs)
+    (λ c. search needs) returns)

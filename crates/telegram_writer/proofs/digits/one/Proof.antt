@@ -5,15 +5,9 @@ use borrow.Author.Needs.{needs}
 use Rattle.telegram_writer.proofs.digits.one.Statement.{statement}
 use Rattle.telegram_writer.proofs.digits.one.Tie as tie
 
-digit-requires : tie.Need-digit-requires
-digit-requires c κs = search needs
-
-array-write-t : tie.Need-array-write-t
-array-write-t c = search needs
-
 returns : tie.Need-returns
 unfolding digitsOf
 returns c = rw (c .digit .ensures)
 
 pub one-spec : {M : Type 1} → statement M
-one-spec = tie.close (tie.spec digit-requires array-write-t returns)
+one-spec = tie.close (tie.spec (λ c κs. search needs) (λ c. search needs) returns)

@@ -8,30 +8,6 @@ use borrow.Author.Needs.{needs}
 use Rattle.telegram_writer.proofs.digits.three.Statement.{statement}
 use Rattle.telegram_writer.proofs.digits.three.Tie as tie
 
-digit-requires : tie.Need-digit-requires
-digit-requires c κs = search needs
-
-array-write-t : tie.Need-array-write-t
-array-write-t c = search needs
-
-digit-requires-2 : tie.Need-digit-requires-2
-digit-requires-2 c κs = search needs
-
-add-t : tie.Need-add-t
-add-t c = search needs
-
-array-write-t-2 : tie.Need-array-write-t-2
-array-write-t-2 c = search needs
-
-digit-requires-3 : tie.Need-digit-requires-3
-digit-requires-3 c κs = search needs
-
-add-t-2 : tie.Need-add-t-2
-add-t-2 c = search needs
-
-array-write-t-3 : tie.Need-array-write-t-3
-array-write-t-3 c = search needs
-
 returns : tie.Need-returns
 unfolding digitsOf
 returns c =
@@ -43,12 +19,5 @@ pub three-spec : {M : Type 1} → statement M
 three-spec =
     tie.close
     (tie.spec
-    digit-requires
-    array-write-t
-    digit-requires-2
-    add-t
-    array-write-t-2
-    digit-requires-3
-    add-t-2
-    array-write-t-3
-    returns)
+    (λ c κs. search needs) (λ c. search needs) (λ c κs. search needs) (λ c. search needs) (λ c. search needs)
+    (λ c κs. search needs) (λ c. search needs) (λ c. search needs) returns)

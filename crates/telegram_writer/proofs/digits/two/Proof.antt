@@ -8,21 +8,6 @@ use borrow.Author.Needs.{needs}
 use Rattle.telegram_writer.proofs.digits.two.Statement.{statement}
 use Rattle.telegram_writer.proofs.digits.two.Tie as tie
 
-digit-requires : tie.Need-digit-requires
-digit-requires c κs = search needs
-
-array-write-t : tie.Need-array-write-t
-array-write-t c = search needs
-
-digit-requires-2 : tie.Need-digit-requires-2
-digit-requires-2 c κs = search needs
-
-add-t : tie.Need-add-t
-add-t c = search needs
-
-array-write-t-2 : tie.Need-array-write-t-2
-array-write-t-2 c = search needs
-
 returns : tie.Need-returns
 unfolding digitsOf
 returns c =
@@ -32,4 +17,5 @@ returns c =
 pub two-spec : {M : Type 1} → statement M
 two-spec =
     tie.close
-    (tie.spec digit-requires array-write-t digit-requires-2 add-t array-write-t-2 returns)
+    (tie.spec
+    (λ c κs. search needs) (λ c. search needs) (λ c κs. search needs) (λ c. search needs) (λ c. search needs) returns)

@@ -8,27 +8,6 @@ use borrow.Author.Needs.{needs}
 use Rattle.telegram_writer.proofs.messages.put_capture_state.Statement.{statement}
 use Rattle.telegram_writer.proofs.messages.put_capture_state.Tie as tie
 
-header-requires : tie.Need-header-requires
-header-requires c κs = search needs
-
-three-requires : tie.Need-three-requires
-three-requires c κs = search needs
-
-one-requires : tie.Need-one-requires
-one-requires c κs = search needs
-
-eight-requires : tie.Need-eight-requires
-eight-requires c κs = search needs
-
-one-requires-2 : tie.Need-one-requires-2
-one-requires-2 c κs = search needs
-
-copy-requires : tie.Need-copy-requires
-copy-requires c κs = search needs
-
-same-length : tie.Need-same-length
-same-length c = search needs
-
 returns : tie.Need-returns
 unfolding telegramOf bytesOf digitsOf
 returns c =
@@ -39,11 +18,5 @@ pub put-capture-state-spec : {M : Type 1} → statement M
 put-capture-state-spec =
     tie.close
     (tie.spec
-    header-requires
-    three-requires
-    one-requires
-    eight-requires
-    one-requires-2
-    copy-requires
-    same-length
-    returns)
+    (λ c κs. search needs) (λ c κs. search needs) (λ c κs. search needs) (λ c κs. search needs) (λ c κs. search needs)
+    (λ c κs. search needs) (λ c. search needs) returns)

@@ -8,33 +8,6 @@ use borrow.Author.Needs.{needs}
 use Rattle.telegram_writer.proofs.messages.put_time_notice.Statement.{statement}
 use Rattle.telegram_writer.proofs.messages.put_time_notice.Tie as tie
 
-header-requires : tie.Need-header-requires
-header-requires c κs = search needs
-
-four-requires : tie.Need-four-requires
-four-requires c κs = search needs
-
-two-requires : tie.Need-two-requires
-two-requires c κs = search needs
-
-two-requires-2 : tie.Need-two-requires-2
-two-requires-2 c κs = search needs
-
-two-requires-3 : tie.Need-two-requires-3
-two-requires-3 c κs = search needs
-
-two-requires-4 : tie.Need-two-requires-4
-two-requires-4 c κs = search needs
-
-two-requires-5 : tie.Need-two-requires-5
-two-requires-5 c κs = search needs
-
-copy-requires : tie.Need-copy-requires
-copy-requires c κs = search needs
-
-same-length : tie.Need-same-length
-same-length c = search needs
-
 returns : tie.Need-returns
 unfolding telegramOf bytesOf digitsOf
 returns c =
@@ -45,13 +18,5 @@ pub put-time-notice-spec : {M : Type 1} → statement M
 put-time-notice-spec =
     tie.close
     (tie.spec
-    header-requires
-    four-requires
-    two-requires
-    two-requires-2
-    two-requires-3
-    two-requires-4
-    two-requires-5
-    copy-requires
-    same-length
-    returns)
+    (λ c κs. search needs) (λ c κs. search needs) (λ c κs. search needs) (λ c κs. search needs) (λ c κs. search needs)
+    (λ c κs. search needs) (λ c κs. search needs) (λ c κs. search needs) (λ c. search needs) returns)

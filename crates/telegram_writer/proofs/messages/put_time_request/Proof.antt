@@ -8,15 +8,6 @@ use borrow.Author.Needs.{needs}
 use Rattle.telegram_writer.proofs.messages.put_time_request.Statement.{statement}
 use Rattle.telegram_writer.proofs.messages.put_time_request.Tie as tie
 
-header-requires : tie.Need-header-requires
-header-requires c κs = search needs
-
-copy-requires : tie.Need-copy-requires
-copy-requires c κs = search needs
-
-same-length : tie.Need-same-length
-same-length c = search needs
-
 returns : tie.Need-returns
 unfolding telegramOf bytesOf digitsOf
 returns c =
@@ -24,4 +15,4 @@ returns c =
     (p .0, p .1 ∙ rw (c .before .before .before .before .header .ensures))
 
 pub put-time-request-spec : {M : Type 1} → statement M
-put-time-request-spec = tie.close (tie.spec header-requires copy-requires same-length returns)
+put-time-request-spec = tie.close (tie.spec (λ c κs. search needs) (λ c κs. search needs) (λ c. search needs) returns)

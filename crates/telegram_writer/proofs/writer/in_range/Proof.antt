@@ -5,59 +5,8 @@ use borrow.Author.Needs.{needs}
 use Rattle.telegram_writer.proofs.writer.in_range.Statement.{statement}
 use Rattle.telegram_writer.proofs.writer.in_range.Tie as tie
 
-enum-known-message : tie.Need-enum-known-message
-enum-known-message c = search needs
-
-time-notice-in-range-requires : tie.Need-time-notice-in-range-requires
-time-notice-in-range-requires c κs = search needs
-
-enum-known-message-2 : tie.Need-enum-known-message-2
-enum-known-message-2 c = search needs
-
-operation-answer-in-range-requires : tie.Need-operation-answer-in-range-requires
-operation-answer-in-range-requires c κs = search needs
-
 enum-told : tie.Need-enum-told
 enum-told c = search needs
-
-enum-known-message-3 : tie.Need-enum-known-message-3
-enum-known-message-3 c = search needs
-
-base-arrival-in-range-requires : tie.Need-base-arrival-in-range-requires
-base-arrival-in-range-requires c κs = search needs
-
-enum-told-2 : tie.Need-enum-told-2
-enum-told-2 c = search needs
-
-enum-known-message-4 : tie.Need-enum-known-message-4
-enum-known-message-4 c = search needs
-
-call-in-range-requires : tie.Need-call-in-range-requires
-call-in-range-requires c κs = search needs
-
-enum-known-message-5 : tie.Need-enum-known-message-5
-enum-known-message-5 c = search needs
-
-caller-notice-in-range-requires : tie.Need-caller-notice-in-range-requires
-caller-notice-in-range-requires c κs = search needs
-
-enum-known-message-6 : tie.Need-enum-known-message-6
-enum-known-message-6 c = search needs
-
-capture-request-in-range-requires : tie.Need-capture-request-in-range-requires
-capture-request-in-range-requires c κs = search needs
-
-enum-known-message-7 : tie.Need-enum-known-message-7
-enum-known-message-7 c = search needs
-
-capture-reply-in-range-requires : tie.Need-capture-reply-in-range-requires
-capture-reply-in-range-requires c κs = search needs
-
-enum-known-message-8 : tie.Need-enum-known-message-8
-enum-known-message-8 c = search needs
-
-capture-state-in-range-requires : tie.Need-capture-state-in-range-requires
-capture-state-in-range-requires c κs = search needs
 
 returns : tie.Need-returns
 returns c = rw (c .before .before .message .given .1) (c .time-notice-in-range .ensures)
@@ -95,31 +44,8 @@ pub in-range-spec : {M : Type 1} → statement M
 in-range-spec =
     tie.close
     (tie.spec
-    enum-known-message
-    time-notice-in-range-requires
-    enum-known-message-2
-    operation-answer-in-range-requires
-    enum-told
-    enum-known-message-3
-    base-arrival-in-range-requires
-    enum-told-2
-    enum-known-message-4
-    call-in-range-requires
-    enum-known-message-5
-    caller-notice-in-range-requires
-    enum-known-message-6
-    capture-request-in-range-requires
-    enum-known-message-7
-    capture-reply-in-range-requires
-    enum-known-message-8
-    capture-state-in-range-requires
-    returns
-    returns-2
-    returns-3
-    returns-4
-    returns-5
-    returns-6
-    returns-7
-    returns-8
-    returns-9
-    returns-10)
+    (λ c. search needs) (λ c κs. search needs) (λ c. search needs) (λ c κs. search needs) enum-told
+    (λ c. search needs) (λ c κs. search needs) (λ c. search needs) (λ c. search needs) (λ c κs. search needs)
+    (λ c. search needs) (λ c κs. search needs) (λ c. search needs) (λ c κs. search needs) (λ c. search needs)
+    (λ c κs. search needs) (λ c. search needs) (λ c κs. search needs) returns returns-2 returns-3 returns-4 returns-5
+    returns-6 returns-7 returns-8 returns-9 returns-10)

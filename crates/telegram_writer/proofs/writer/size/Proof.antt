@@ -4,35 +4,8 @@ use borrow.Author.Needs.{needs}
 use Rattle.telegram_writer.proofs.writer.size.Statement.{statement}
 use Rattle.telegram_writer.proofs.writer.size.Tie as tie
 
-enum-known-message : tie.Need-enum-known-message
-enum-known-message c = search needs
-
-enum-known-message-2 : tie.Need-enum-known-message-2
-enum-known-message-2 c = search needs
-
 enum-told : tie.Need-enum-told
 enum-told c = search needs
-
-enum-known-message-3 : tie.Need-enum-known-message-3
-enum-known-message-3 c = search needs
-
-enum-told-2 : tie.Need-enum-told-2
-enum-told-2 c = search needs
-
-enum-known-message-4 : tie.Need-enum-known-message-4
-enum-known-message-4 c = search needs
-
-enum-known-message-5 : tie.Need-enum-known-message-5
-enum-known-message-5 c = search needs
-
-enum-known-message-6 : tie.Need-enum-known-message-6
-enum-known-message-6 c = search needs
-
-enum-known-message-7 : tie.Need-enum-known-message-7
-enum-known-message-7 c = search needs
-
-enum-known-message-8 : tie.Need-enum-known-message-8
-enum-known-message-8 c = search needs
 
 returns : tie.Need-returns
 returns c = rw (c .before .message .given .1)
@@ -68,23 +41,6 @@ pub size-spec : {M : Type 1} → statement M
 size-spec =
     tie.close
     (tie.spec
-    enum-known-message
-    enum-known-message-2
-    enum-told
-    enum-known-message-3
-    enum-told-2
-    enum-known-message-4
-    enum-known-message-5
-    enum-known-message-6
-    enum-known-message-7
-    enum-known-message-8
-    returns
-    returns-2
-    returns-3
-    returns-4
-    returns-5
-    returns-6
-    returns-7
-    returns-8
-    returns-9
-    returns-10)
+    (λ c. search needs) (λ c. search needs) enum-told (λ c. search needs) (λ c. search needs) (λ c. search needs)
+    (λ c. search needs) (λ c. search needs) (λ c. search needs) (λ c. search needs) returns returns-2 returns-3
+    returns-4 returns-5 returns-6 returns-7 returns-8 returns-9 returns-10)

@@ -15,18 +15,12 @@ returns : tie.Need-returns
 unfolding writeAnswer writeInto
 returns c = (simp (lt-leb _ _ (c .if1 .taken)), simp (lt-leb _ _ (c .if1 .taken)))
 
-in-range-requires : tie.Need-in-range-requires
-in-range-requires c κs = search needs
-
 returns-2 : tie.Need-returns-2
 unfolding writeAnswer writeInto
 returns-2 c =
     let o = le-leb _ _ (c .before .before .if1 .left) in
     let a : inRange (c .before .before .before .before .args .message) ≡ false = sym (c .before .in-range .ensures) ∙ not-true _ (c .if2 .taken) in
     (simp (o, a), simp (o, a))
-
-size-requires : tie.Need-size-requires
-size-requires c κs = search needs
 
 returns-3 : tie.Need-returns-3
 unfolding writeAnswer writeInto
@@ -39,9 +33,6 @@ returns-3 c =
 
 put-requires : tie.Need-put-requires
 put-requires c κs = omega (arith, c .before .before .size .ensures)
-
-same-length : tie.Need-same-length
-same-length c = search needs
 
 returns-4 : tie.Need-returns-4
 unfolding writeAnswer writeInto
@@ -57,11 +48,5 @@ pub write-spec : {M : Type 1} → statement M
 write-spec =
     tie.close
     (tie.spec
-    returns
-    in-range-requires
-    returns-2
-    size-requires
-    returns-3
-    put-requires
-    same-length
+    returns (λ c κs. search needs) returns-2 (λ c κs. search needs) returns-3 put-requires (λ c. search needs)
     returns-4)

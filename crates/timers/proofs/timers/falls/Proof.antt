@@ -7,20 +7,11 @@ use Rattle.timers.proofs.Ticks.{at-rest, talked, quiet-falls, release-l
 use Rattle.timers.proofs.timers.falls.Statement.{statement}
 use Rattle.timers.proofs.timers.falls.Tie as tie
 
-is-held-requires : tie.Need-is-held-requires
-is-held-requires c κs = search needs
-
 returns : tie.Need-returns
 returns c = sym (at-rest _ (rw (c .before .is-held .ensures) at (c .if1 .taken)))
 
-is-present-requires : tie.Need-is-present-requires
-is-present-requires c κs = search needs
-
 returns-2 : tie.Need-returns-2
 returns-2 c = sym (talked _ (rw (c .before .before .is-present .ensures) at (c .if2 .taken)))
-
-sub-t8 : tie.Need-sub-t8
-sub-t8 c = search needs
 
 returns-3 : tie.Need-returns-3
 returns-3 c = sym (quiet-falls _ (rw (c .before .before .before .before .before .is-present .ensures) at (c .before .before .before .if2 .left)) (c .before .if3 .taken))
@@ -47,12 +38,5 @@ pub falls-spec : {M : Type 1} → statement M
 falls-spec =
     tie.close
     (tie.spec
-    is-held-requires
-    returns
-    is-present-requires
-    returns-2
-    sub-t8
-    returns-3
-    sub-t9
-    returns-4
+    (λ c κs. search needs) returns (λ c κs. search needs) returns-2 (λ c. search needs) returns-3 sub-t9 returns-4
     returns-5)

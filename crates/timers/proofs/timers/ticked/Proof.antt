@@ -6,23 +6,8 @@ use Rattle.timers.proofs.Ticks.{tick-falling}
 use Rattle.timers.proofs.timers.ticked.Statement.{statement}
 use Rattle.timers.proofs.timers.ticked.Tie as tie
 
-falls-requires : tie.Need-falls-requires
-falls-requires c κs = search needs
-
 enum-told : tie.Need-enum-told
 enum-told c = search needs
-
-enum-known-falling : tie.Need-enum-known-falling
-enum-known-falling c = search needs
-
-enum-known-falling-2 : tie.Need-enum-known-falling-2
-enum-known-falling-2 c = search needs
-
-enum-told-2 : tie.Need-enum-told-2
-enum-told-2 c = search needs
-
-run-out-requires : tie.Need-run-out-requires
-run-out-requires c κs = search needs
 
 returns : tie.Need-returns
 returns c x = rw (tick-falling, sym (c .before .before .falls .ensures) ∙ c .enum-told .given .1) refl
@@ -40,13 +25,5 @@ pub ticked-spec : {M : Type 1} → statement M
 ticked-spec =
     tie.close
     (tie.spec
-    falls-requires
-    enum-told
-    enum-known-falling
-    enum-known-falling-2
-    enum-told-2
-    run-out-requires
-    returns
-    returns-2
-    returns-3
-    returns-4)
+    (λ c κs. search needs) enum-told (λ c. search needs) (λ c. search needs) (λ c. search needs)
+    (λ c κs. search needs) returns returns-2 returns-3 returns-4)
