@@ -5,7 +5,7 @@ use mathlib.Core.Bool.{Bool, _&&_, _||_, cond}
 use lib.Dec.{eqb}
 use Rattle.channel.specs.State.{isIn, heldBy, isPresent}
 use Rattle.channel.specs.declared.state.Channel.{Channel}
-use Rattle.set_rules.specs.Refusals.{isKind, isCaller, phaseOf}
+use Rattle.set_rules.specs.Refusals.{isKind, isCaller}
 use Rattle.set_rules.specs.declared.state.Desk.{Desk}
 use Rattle.set_rules.specs.declared.state.Entry.{Entry}
 use Rattle.changes.specs.declared.request.Request.{Request}
@@ -36,11 +36,15 @@ mobileRefusal x found c =
 abbrev pub lineRefusal : Entry → Bool → ℕ → Bool → Channel → ℕ
 lineRefusal x there phase found c = cond (isKind 2 x || isKind 3 x) (pressRefusal x there phase found c) (mobileRefusal x found c)
 
+-- the phase that a telegram needs, by its identifier
+abbrev pub phaseNeeded : ℕ → ℕ
+phaseNeeded i = cond (eqb i 550411) 1 (cond (eqb i 550421) 2 3)
+
 -- what a desk at place d asks by telegram
 abbrev pub requestRefusal : Request → ℕ → Desk → Bool → Channel → ℕ
 requestRefusal q d k found c =
     cond (eqb (q .refusal) 0)
-    (cond (eqb (k .link .phase) (phaseOf (q .identifier)))
+    (cond (eqb (k .link .phase) (phaseNeeded (q .identifier)))
     (cond (eqb (q .identifier) 550411) 0
     (cond (eqb (q .identifier) 550421) 0
     (cond (found && isIn d (c .entitled)) (cond (eqb (q .number) (k .number .digits)) 0 13) 12)))

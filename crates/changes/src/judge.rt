@@ -7,8 +7,8 @@ use set_rules::Entry;
 ghost use mathlib.Core.Path.{_≡_};
 ghost use mathlib.Core.Bool.{cond};
 ghost use lib.Dec.{eqb};
-ghost use Rattle.set_rules.specs.Refusals.{isCaller, phaseOf};
-ghost use Rattle.changes.specs.Judging.{pressRefusal, mobileRefusal, lineRefusal, requestRefusal};
+ghost use Rattle.set_rules.specs.Refusals.{isCaller};
+ghost use Rattle.changes.specs.Judging.{pressRefusal, mobileRefusal, lineRefusal, phaseNeeded, requestRefusal};
 
 fn is_caller(number: Digits) -> bool
     ensures { λ r. ⌜ r ≡ isCaller number ⌝ }
@@ -83,7 +83,7 @@ pub fn judge_line(x: Entry, there: bool, phase: u8, found: bool, c: Channel) -> 
 
 // The phase that a telegram needs.
 fn phase_of(identifier: u32) -> u8
-    ensures { λ r. ⌜ r ≡ phaseOf identifier ⌝ }
+    ensures { λ r. ⌜ r ≡ phaseNeeded identifier ⌝ }
 {
     match identifier {
         550411 => 1,

@@ -1,7 +1,7 @@
 -- The step, kind by kind: what the table of refusals and the rules give for an entry of each kind.
 -- Assumes nothing.
 use Prim.Native.Nat.{ℕ, zero, suc, _≤_}
-use mathlib.Core.List.{List}
+use mathlib.Core.List.{List, []}
 use mathlib.Core.Bool.{Bool, true, false, _&&_, _||_, not, cond}
 use mathlib.Core.Logic.{_⊎_, inl, inr}
 use mathlib.Core.Path.{_≡_, refl, sym, ap, ap₂, _∙_}
@@ -17,8 +17,9 @@ use Rattle.channel.specs.State.{heldBy, isPresent}
 use Rattle.set_rules.specs.State.{hasDesk, deskAt, hasChannel, channelAt}
 use Rattle.set_rules.specs.Entries.{readEntry, telegramIn, planIn}
 use Rattle.set_rules.specs.Plan.{planOk}
-use Rattle.set_rules.specs.Refusals.{table, firstOf, refusalOf, deskSends, mayUse, isCaller}
-use Rattle.set_rules.specs.SetRules.{Effect, accepted, onReading, byHolder, onTick, onHandover}
+use Rattle.set_rules.specs.Refusals.{askedBy, askedIn, table, firstOf, refusalOf, deskSends, mayUse, isCaller}
+use Rattle.set_rules.specs.ByKind.{pick}
+use Rattle.set_rules.specs.SetRules.{Effect, effect, accepted, onRequest, byHolder, onTick, onHandover}
 use Rattle.set_rules.specs.Feeds.{Outcome, answerOf, refuse, emit, stepOf}
 use Rattle.set_rules.specs.declared.state.Entry.{Entry}
 use Rattle.set_rules.specs.declared.state.LineSet.{LineSet}
@@ -33,7 +34,7 @@ use Rattle.line_set.specs.Steps.{Gives, judged, lineRefusalOf, lineOutco
 
 press-form : (t p m h o : Bool)
     → _≡_ {A = ℕ}
-    (cond (not t) 7 (cond (not p) 11 (cond (not m || false) 12 (cond (not h) 14 (cond ((o || false) || false) 15 0)))))
+    (cond (not t) 7 (cond (not p) 11 (cond (not m) 12 (cond (not h) 14 (cond o 15 0)))))
     (cond t (cond p (cond m (cond h (cond o 15 0) 14) 12) 11) 7)
 press-form false p m h o = refl
 press-form true false m h o = refl
@@ -43,14 +44,14 @@ press-form true true true true false = refl
 press-form true true true true true = refl
 
 cut-form : (t p m h : Bool)
-    → _≡_ {A = ℕ} (cond (not t) 7 (cond (not p) 11 (cond (not m || false) 12 (cond (not h) 14 0)))) (cond t (cond p (cond m (cond h 0 14) 12) 11) 7)
+    → _≡_ {A = ℕ} (cond (not t) 7 (cond (not p) 11 (cond (not m) 12 (cond (not h) 14 0)))) (cond t (cond p (cond m (cond h 0 14) 12) 11) 7)
 cut-form false p m h = refl
 cut-form true false m h = refl
 cut-form true true false h = refl
 cut-form true true true false = refl
 cut-form true true true true = refl
 
-on-form : (f n a : Bool) → _≡_ {A = ℕ} (cond (not f) 12 (cond (not n) 13 (cond (a || false) 15 0))) (cond f (cond n (cond a 15 0) 13) 12)
+on-form : (f n a : Bool) → _≡_ {A = ℕ} (cond (not f) 12 (cond (not n) 13 (cond a 15 0))) (cond f (cond n (cond a 15 0) 13) 12)
 on-form false n a = refl
 on-form true false a = refl
 on-form true true false = refl
@@ -61,7 +62,7 @@ off-form false a = refl
 off-form true false = refl
 off-form true true = refl
 
-request-form : (p m n : Bool) → _≡_ {A = ℕ} (cond (not p) 11 (cond ((not m || false) || false) 12 (cond (not n || false) 13 0))) (cond p (cond m (cond n 0 13) 12) 11)
+request-form : (p m n : Bool) → _≡_ {A = ℕ} (cond (not p) 11 (cond (not m) 12 (cond (not n) 13 0))) (cond p (cond m (cond n 0 13) 12) 11)
 request-form false m n = refl
 request-form true false n = refl
 request-form true true false = refl
@@ -108,19 +109,19 @@ module _ (s : LineSet) (e : List ℕ) (x : Entry) (z : x .refusal ≡ 0) (p : s 
   line-of room r a = ap₂ (λ (n : ℕ) (f : Effect). judged s n f room) r a
 
   press-step : (room : ℕ) → x .kind ≡ 2 → judged s (refusalOf s e x) (accepted s e x) room ≡ lineOutcome s x room
-  unfolding accepted
+  unfolding accepted pick
   press-step room k = line-of room (press-refusal k) (rw k refl)
 
   cut-step : (room : ℕ) → x .kind ≡ 3 → judged s (refusalOf s e x) (accepted s e x) room ≡ lineOutcome s x room
-  unfolding accepted
+  unfolding accepted pick
   cut-step room k = line-of room (cut-refusal k) (rw k refl)
 
   on-step : (room : ℕ) → x .kind ≡ 4 → judged s (refusalOf s e x) (accepted s e x) room ≡ lineOutcome s x room
-  unfolding accepted
+  unfolding accepted pick
   on-step room k = line-of room (on-refusal k) (rw k refl)
 
   off-step : (room : ℕ) → x .kind ≡ 5 → judged s (refusalOf s e x) (accepted s e x) room ≡ lineOutcome s x room
-  unfolding accepted
+  unfolding accepted pick
   off-step room k = line-of room (off-refusal k) (rw k refl)
 
   pub line-step : (room k : ℕ) → x .kind ≡ k → (k ≡ 2) ⊎ ((k ≡ 3) ⊎ ((k ≡ 4) ⊎ (k ≡ 5))) → judged s (refusalOf s e x) (accepted s e x) room ≡ lineOutcome s x room
@@ -132,7 +133,7 @@ module _ (s : LineSet) (e : List ℕ) (x : Entry) (z : x .refusal ≡ 0) (p : s 
   -- ---- tick and handover: no row holds
 
   pub tick-step : (room : ℕ) → x .kind ≡ 6 → judged s (refusalOf s e x) (accepted s e x) room ≡ emit s (onTick s) room
-  unfolding judged refusalOf firstOf accepted
+  unfolding judged refusalOf firstOf accepted pick
   tick-step room k = simp (z, k, p) refl
 
   -- ---- telegrams
@@ -170,20 +171,20 @@ module _ (s : LineSet) (e : List ℕ) (x : Entry) (z : x .refusal ≡ 0) (p : s 
     unread-form f true true true = refl
 
     abbrev ByTelegram : Reading → Type 0
-    ByTelegram r = judged s (firstOf table s e r x) (onReading s d r) room ≡ requestOutcome s d (requestIn (deskAt s d .code) r) room
+    ByTelegram r = judged s (firstOf table s e r x) (onRequest s d (askedIn r)) room ≡ requestOutcome s d (requestIn (deskAt s d .code) r) room
 
     -- the table's rows on a telegram under code c: n is what the rows from 9 on give
     abbrev Rows : ℕ → Message → ℕ → Type 0
     Rows c m n = firstOf table s e (Telegram c m) x ≡ cond (not (hasDesk s d)) 7 (cond (not (eqb c (deskAt s d .code))) 8 n)
 
-    sends : (c : ℕ) (m : Message) (q : Request) (n : ℕ) → Rows c m n → n ≡ refusalBy q → onReading s d (Telegram c m) ≡ requestEffect s d q
+    sends : (c : ℕ) (m : Message) (q : Request) (n : ℕ) → Rows c m n → n ≡ refusalBy q → onRequest s d (askedBy m) ≡ requestEffect s d q
         → cond (eqb c (deskAt s d .code)) q (asksNothing 8) ≡ requestIn (deskAt s d .code) (Telegram c m) → ByTelegram (Telegram c m)
     unfolding requestOutcome
-    sends c m q n r g f a = rw (r, ← a) (taken q n (onReading s d (Telegram c m)) g f (hasDesk s d) (eqb c (deskAt s d .code)))
+    sends c m q n r g f a = rw (r, ← a) (taken q n (onRequest s d (askedBy m)) g f (hasDesk s d) (eqb c (deskAt s d .code)))
 
     sends-not : (c : ℕ) (m : Message) → Rows c m 9 → cond (eqb c (deskAt s d .code)) (asksNothing 9) (asksNothing 8) ≡ requestIn (deskAt s d .code) (Telegram c m) → ByTelegram (Telegram c m)
     unfolding requestOutcome
-    sends-not c m r a = rw (r, ← a) (untaken (onReading s d (Telegram c m)) (hasDesk s d) (eqb c (deskAt s d .code)))
+    sends-not c m r a = rw (r, ← a) (untaken (onRequest s d (askedBy m)) (hasDesk s d) (eqb c (deskAt s d .code)))
 
     abbrev phase : ℕ
     phase = deskAt s d .link .phase
@@ -210,21 +211,21 @@ module _ (s : LineSet) (e : List ℕ) (x : Entry) (z : x .refusal ≡ 0) (p : s 
         let u : Bool = not (eqb n 8) && eqb c (deskAt s d .code) in
         let v : Bool = not (eqb n 9) && deskSends i in
         let rows : firstOf table s e (Refused n c i) x ≡ cond (not (hasDesk s d)) 7 (cond (not u) 8 (cond (not v) 9 10)) = rw (k, p) refl in
-        rw rows (unread-form (onReading s d (Refused n c i)) (hasDesk s d) u v)
+        rw rows (unread-form (effect s s []) (hasDesk s d) u v)
 
     pub telegram-step : x .kind ≡ 1 → judged s (refusalOf s e x) (accepted s e x) room ≡ requestOutcome s d (requestIn (deskAt s d .code) (readTelegram (telegramIn e))) room
-    unfolding refusalOf accepted
+    unfolding refusalOf accepted pick
     telegram-step k = simp (z, k) (by-reading (readTelegram (telegramIn e)) k)
 
   pub handover-step : (room : ℕ) → x .kind ≡ 8 → judged s (refusalOf s e x) (accepted s e x) room ≡ emit s (onHandover s) room
-  unfolding judged refusalOf firstOf accepted
+  unfolding judged refusalOf firstOf accepted pick
   handover-step room k = simp (z, k, p) refl
 
 -- ---- before the plan, and what cannot be read
 
 module _ (s : LineSet) (e : List ℕ) (x : Entry) (room : ℕ) where
   pub plan-step : x .refusal ≡ 0 → x .kind ≡ 7 → judged s (refusalOf s e x) (accepted s e x) room ≡ planOutcome s (planIn e) room
-  unfolding judged refusalOf firstOf accepted planOutcome
+  unfolding judged refusalOf firstOf accepted pick planOutcome
   plan-step z k = go (s .planned) refl (planOk (planIn e)) refl
     where
       go : (t : Bool) → s .planned ≡ t → (u : Bool) → planOk (planIn e) ≡ u → judged s (refusalOf s e x) (accepted s e x) room ≡ planOutcome s (planIn e) room

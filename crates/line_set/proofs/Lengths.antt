@@ -9,7 +9,8 @@ use lib.Dec.{eqb, leb, ltb}
 use lib.ListN.{length}
 use borrow.Author.Tests.{leb-true, eqb-true, ltb-true, ltb-false, ne-eqb}
 use Rattle.fields.proofs.DigitLaws.{both}
-use Rattle.set_rules.specs.Entries.{byte, measured, payload, sizeOk, payloadOk, readEntry}
+use Rattle.set_rules.proofs.ByKind.{pick-each}
+use Rattle.set_rules.specs.Entries.{byte, measured, payload, sizes, sizeOk, payloadOk, readEntry}
 
 kind-is : (k : ℕ) (e : List ℕ) → payload k e .kind ≡ k
 kind-is k e = go (eqb k 1) refl (eqb k 2) refl (eqb k 3) refl (eqb k 4) refl (eqb k 5) refl
@@ -56,17 +57,32 @@ kind-read e h = go (measured e) refl (eqb (byte e 2) 1) refl (payloadOk (byte e 
 
 -- a payload of a right size is of a kind from 1 to 8
 sized-kind : (k n : ℕ) → sizeOk k n ≡ true → (1 ≤ k) × (k ≤ 8)
-sized-kind k n h = go (ltb 0 k) refl (ltb 8 k) refl
+sized-kind k n =
+    pick-each (λ ok. ok n ≡ true → (1 ≤ k) × (k ≤ 8)) k (λ n. false) sizes (λ h. absurd (false≢true h)) (
+      known 1 (omega arith) (omega arith),
+      (
+        known 2 (omega arith) (omega arith),
+        (
+          known 3 (omega arith) (omega arith),
+          (
+            known 4 (omega arith) (omega arith),
+            (
+              known 5 (omega arith) (omega arith),
+              (
+                known 6 (omega arith) (omega arith),
+                (
+                  known 7 (omega arith) (omega arith),
+                  (known 8 (omega arith) (omega arith), tt),
+                ),
+              ),
+            ),
+          ),
+        ),
+      ),
+    )
   where
-    none : ((i : ℕ) → 1 ≤ i → i ≤ 8 → k ≡ i → ⊥) → ⊥
-    none f =
-        let o : (i : ℕ) → 1 ≤ i → i ≤ 8 → eqb k i ≡ false = λ i l u. ne-eqb k i (f i l u) in
-        false≢true (rw (o 1 (omega arith) (omega arith), o 2 (omega arith) (omega arith), o 3 (omega arith) (omega arith), o 4 (omega arith) (omega arith), o 5 (omega arith) (omega arith), o 6 (omega arith) (omega arith), o 7 (omega arith) (omega arith), o 8 (omega arith) (omega arith)) at h)
-
-    go : (a : Bool) → ltb 0 k ≡ a → (b : Bool) → ltb 8 k ≡ b → (1 ≤ k) × (k ≤ 8)
-    go false a t b = let z = ltb-false 0 k a in absurd (none (λ i l u e. omega (arith, z, l, e)))
-    go true a true b = let z = ltb-true 8 k b in absurd (none (λ i l u e. omega (arith, z, u, e)))
-    go true a false b = (omega (arith, ltb-true 0 k a), ltb-false 8 k b)
+    known : {P : Type 0} (i : ℕ) → 1 ≤ i → i ≤ 8 → k ≡ i → P → (1 ≤ k) × (k ≤ 8)
+    known i low high e p = (omega arith, omega arith)
 
 pub kind-range : (e : List ℕ) → readEntry e .refusal ≡ 0 → (1 ≤ readEntry e .kind) × (readEntry e .kind ≤ 8)
 unfolding readEntry

@@ -15,14 +15,14 @@ use Rattle.channel.specs.declared.state.Event.{Event}
 use Rattle.channel.specs.declared.state.Event.the-variants.{Capture, Release}
 use Rattle.set_rules.specs.State.{noDesk, noChannel, deskAt, placeIn, hasChannel, channelAt, withDesks, withChannels, linked, timeTold, answered}
 use Rattle.set_rules.specs.Records.{spaceOf, recordsOf}
-use Rattle.set_rules.specs.Refusals.{isKind, phaseOf}
+use Rattle.set_rules.specs.Refusals.{isKind}
 use Rattle.set_rules.specs.SetRules.{Effect, effect, timeTaken, answerTaken, byHolder, onChannel}
 use Rattle.set_rules.specs.Feeds.{Outcome, refuse, emit}
 use Rattle.set_rules.specs.declared.state.Desk.{Desk}
 use Rattle.set_rules.specs.declared.state.Entry.{Entry}
 use Rattle.set_rules.specs.declared.state.LineSet.{LineSet}
 use Rattle.changes.specs.Requests.{asksNothing}
-use Rattle.changes.specs.Judging.{requestRefusal}
+use Rattle.changes.specs.Judging.{phaseNeeded, requestRefusal}
 use Rattle.line_set.specs.Steps.{judged, lineRefusalOf, lineOutcome, requestEffect, lifted, moveAt}
 use Rattle.changes.specs.Changes.{Move, Changed, refuseIn, emitIn, judgedIn, onOne, timeIn, answerIn, lineRefusalIn, lineIn, requestMove, requestOn, changeIn, eventOf}
 use Rattle.changes.specs.declared.request.Request.{Request}
@@ -101,9 +101,9 @@ module _ (s : LineSet) (place : ℕ) (c : Channel) (at : getD (s .channels) plac
 
   -- a request that is not refused though its channel is not found is about the link
   about-link : (d : ℕ) (q : Request) → requestRefusal q d (getD ds d noDesk) false c ≡ 0 → eqb (q .identifier) 550411 ≡ false → eqb (q .identifier) 550421 ≡ false → ⊥
-  about-link d q z i j = go (eqb (q .refusal) 0) refl (eqb (getD ds d noDesk .link .phase) (phaseOf (q .identifier))) refl
+  about-link d q z i j = go (eqb (q .refusal) 0) refl (eqb (getD ds d noDesk .link .phase) (phaseNeeded (q .identifier))) refl
     where
-      go : (t : Bool) → eqb (q .refusal) 0 ≡ t → (u : Bool) → eqb (getD ds d noDesk .link .phase) (phaseOf (q .identifier)) ≡ u → ⊥
+      go : (t : Bool) → eqb (q .refusal) 0 ≡ t → (u : Bool) → eqb (getD ds d noDesk .link .phase) (phaseNeeded (q .identifier)) ≡ u → ⊥
       go true a true b = let h : _≡_ {A = ℕ} 12 0 = rw (a, b, i, j) at z in omega arith
       go true a false b = let h : _≡_ {A = ℕ} 11 0 = rw (a, b) at z in omega arith
       go false a u b = let h : q .refusal ≡ 0 = rw a at z in false≢true (sym a ∙ rw h refl)

@@ -10,10 +10,8 @@ use lib.Count.{onesIn}
 use lib.Dec.{eqb, leb}
 use lib.ListN.{length, length-append, getD}
 use borrow.Author.Tests.{eqb-true, eqb-false, eq-eqb}
-use Rattle.telegram.specs.Telegram.{telegramOf, sizeOf, rowOf, valuesOf, readTelegram}
+use Rattle.telegram.specs.Telegram.{telegramOf, sizeOf, readTelegram}
 use Rattle.telegram.specs.declared.message.Message.{Message}
-use Rattle.telegram.specs.declared.message.Reading.{Reading}
-use Rattle.telegram.specs.declared.message.Reading.the-variants.{Telegram, Refused as NotRead}
 use Rattle.telegram.proofs.SizeLaws.{length-telegram}
 use Rattle.channel.specs.State.{isIn}
 use Rattle.line_rules.specs.Notices.{Content, telegram, contact, contentFor}
@@ -24,14 +22,16 @@ use Rattle.channel.specs.declared.state.Notice.the-variants.{PressAnswer, Incom
 use Rattle.channel.specs.declared.state.Send.{Send}
 use Rattle.set_rules.specs.State.{newSet, noDesk}
 use Rattle.set_rules.specs.Entries.{readEntry, telegramIn}
-use Rattle.set_rules.specs.Refusals.{refusalOf}
+use Rattle.set_rules.specs.ByKind.{pick}
+use Rattle.set_rules.specs.Refusals.{Request, tellsTime, tellsState, asksChannel, foreign, askedIn, refusalOf}
 use Rattle.set_rules.specs.Records.{Delivery, delivered, recordFor, recordSize, toEach, recordsOf, spaceOf}
-use Rattle.set_rules.specs.SetRules.{Effect, happensIn, onChannel, sendsOf, onTick, onHandover, onMessage, onReading, accepted}
+use Rattle.set_rules.specs.SetRules.{Effect, happensIn, onChannel, sendsOf, onTick, onHandover, onRequest, ways, accepted}
 use Rattle.set_rules.specs.Feeds.{Outcome, Item, refuse, emit, stepOf, stepBy, run, after}
 use Rattle.set_rules.specs.Promises.{Refused, Counted, Renewed}
 use Rattle.set_rules.specs.declared.state.Desk.{Desk}
 use Rattle.set_rules.specs.declared.state.LineSet.{LineSet}
 use Rattle.set_rules.specs.declared.state.Entry.{Entry}
+use Rattle.set_rules.proofs.ByKind.{pick-each}
 
 -- ---- refused answers
 
@@ -127,26 +127,37 @@ pub even-on : (s : LineSet) (ch d : ℕ) (v : Event) → AllEven (onChannel s ch
 unfolding onChannel
 even-on s ch d v = even-sends _ _
 
-either : (t : Bool) (a b : Effect) → AllEven (a .sent) → AllEven (b .sent) → AllEven (cond t a b .sent)
-either true a b p q = p
-either false a b p q = q
-
-even-reading : (s : LineSet) (d : ℕ) (r : Reading) → AllEven (onReading s d r .sent)
-even-reading s d (Telegram c m) =
-    either (eqb (rowOf m .id) 550411) _ _ (λ k. refl, tt) (either (eqb (rowOf m .id) 550421) _ _ tt (even-on s _ d _))
-even-reading s d (NotRead n c i) = tt
+even-request : (s : LineSet) (d : ℕ) (q : Request) → AllEven (onRequest s d q .sent)
+even-request s d tellsTime = (λ k. refl, tt)
+even-request s d (tellsState a) = tt
+even-request s d (asksChannel ch n o) = even-on s ch d _
+even-request s d foreign = tt
 
 pub even-accepted : (s : LineSet) (e : List ℕ) (x : Entry) → AllEven (accepted s e x .sent)
 unfolding accepted onTick onHandover
 even-accepted s e x =
-    either (eqb (x .kind) 1) _ _ (even-reading s (x .desk) (readTelegram (telegramIn e)))
-    (either (eqb (x .kind) 2) _ _ (even-on s (x .channel) _ _)
-    (either (eqb (x .kind) 3) _ _ (even-on s (x .channel) _ _)
-    (either (eqb (x .kind) 4) _ _ (even-on s (x .channel) _ _)
-    (either (eqb (x .kind) 5) _ _ (even-on s (x .channel) _ _)
-    (either (eqb (x .kind) 6) _ _ (even-all s _ _)
-    (either (eqb (x .kind) 7) _ _ (λ k. refl, tt)
-    (even-all s _ _)))))))
+    pick-each (λ f. AllEven (f .sent)) (x .kind) _ (ways s e x) tt (
+      λ k. even-request s (x .desk) (askedIn (readTelegram (telegramIn e))),
+      (
+        λ k. even-on s (x .channel) _ _,
+        (
+          λ k. even-on s (x .channel) _ _,
+          (
+            λ k. even-on s (x .channel) _ _,
+            (
+              λ k. even-on s (x .channel) _ _,
+              (
+                λ k. even-all s _ _,
+                (
+                  λ k. (λ d. refl, tt),
+                  (λ k. even-all s _ _, tt),
+                ),
+              ),
+            ),
+          ),
+        ),
+      ),
+    )
 
 pub counted : Counted
 unfolding stepOf
@@ -161,7 +172,7 @@ counted s e room = go (eqb (refusalOf s e (readEntry e)) 0) refl (leb (spaceOf (
 -- ---- a handover
 
 handed-over : (s : LineSet) (e : List ℕ) (x : Entry) → x .kind ≡ 8 → accepted s e x .after ≡ newSet
-unfolding accepted onHandover
+unfolding accepted pick onHandover
 handed-over s e x h = rw h
 
 -- an accepted entry: no row of the table holds, and the set after is the rule's

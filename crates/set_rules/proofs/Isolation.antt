@@ -1,6 +1,6 @@
 -- Demand 3, its first part: two feeds that differ only in numbers that B may not learn show B the same.
 -- Assumes nothing.
-use Prim.Native.Nat.{ℕ, zero, suc, _+_, _-_, _*_, _/_, _%_, _^_, _≤_}
+use Prim.Native.Nat.{ℕ, zero, suc, _+_, _-_, _*_, _/_, _%_, _^_, _≤_, _<_}
 use mathlib.Core.List.{List, [], _∷_, _++_, map}
 use mathlib.Core.Bool.{Bool, true, false, _&&_, _||_, not, cond}
 use mathlib.Core.Path.{_≡_, refl, sym, ap, _∙_}
@@ -8,15 +8,12 @@ use native.Mathlib.Omega.{arith}
 use native.Mathlib.Nat.{pow-suc}
 use lib.Dec.{eqb, leb, ltb}
 use lib.ListN.{length, getD, take, drop, set}
-use lib.Seq.{take-all}
-use borrow.Author.Tests.{le-leb, eq-eqb, ne-eqb}
-use Rattle.fields.specs.Digits.{digitsIn}
+use lib.Seq.{getD-take}
+use borrow.Author.Tests.{ne-eqb}
 use Rattle.fields.specs.declared.digits.Digits.{Digits}
-use Rattle.fields.specs.declared.digits.Digits.the-variants.{Value, Malformed}
 use Rattle.telegram.specs.declared.message.Number.{Number}
-use Rattle.telegram.specs.Telegram.{rowOf, valuesOf, nth, readTelegram}
+use Rattle.telegram.specs.Telegram.{readTelegram}
 use Rattle.telegram.specs.declared.message.Reading.{Reading}
-use Rattle.telegram.specs.declared.message.Reading.the-variants.{Telegram, Refused}
 use Rattle.channel.specs.State.{isIn, only, holderPlace}
 use Rattle.line_rules.specs.Rules.{Context, Step, happens, mobileRecipients}
 use Rattle.line_rules.specs.Notices.{contentFor}
@@ -30,15 +27,18 @@ use Rattle.channel.specs.declared.state.Notice.the-variants.{PressAnswer, Incom
 use Rattle.channel.specs.declared.state.Send.{Send}
 use Rattle.line_rules.proofs.Veil.{none-in, veil, hide, hide-twice, hideNotice, hideSend, hideSends, hideStep, present-hide, happens-hide, number-hidden}
 use Rattle.set_rules.specs.State.{newSet, noChannel, deskAt, channelsOf, placeOf, placeIn, channelAt, hasChannel, listenersOf, withChannels}
-use Rattle.set_rules.specs.Entries.{readEntry, asks, bad, telegramIn, planIn}
-use Rattle.set_rules.specs.Refusals.{firstOf, refusalOf, isCaller, table}
+use Rattle.set_rules.specs.ByKind.{pick}
+use Rattle.set_rules.specs.Entries.{byte, measured, readEntry, sizeOk, asks, bad, mobileIn, telegramIn}
+use Rattle.set_rules.specs.Refusals.{Request, tellsTime, tellsState, asksChannel, foreign, Test, askedIn, mayUse, mayAsk, firstOf, refusalOf, isCaller, table}
 use Rattle.set_rules.specs.Records.{Delivery, delivered, recordSize, recordsOf, spaceOf}
-use Rattle.set_rules.specs.SetRules.{Effect, effect, telegramTo, timeTaken, answerTaken, contextOf, onChannel, byHolder, happensIn, nextsOf, sendsOf, onTick, onHandover, onPlan, onMessage, onReading, numberIn, accepted}
+use Rattle.set_rules.specs.SetRules.{Effect, effect, telegramTo, timeTaken, answerTaken, contextOf, onChannel, byHolder, happensIn, nextsOf, sendsOf, onTick, onHandover, onRequest, numberIn, ways, accepted}
 use Rattle.set_rules.specs.Feeds.{Outcome, Item, refuse, emit, stepOf, stepBy, ofDesk, received, Seen, seenOf, views}
-use Rattle.set_rules.specs.Promises.{mobileEntry, Exchanged, OtherHolds, Alike, same, numbers, Related, none, more, Isolated}
+use Rattle.set_rules.specs.Promises.{AlikeBut, Renumbered, OtherHolds, MayDiffer, same, talks, Related, none, more, Isolated}
+use Rattle.set_rules.specs.Invariant.{Each}
 use Rattle.set_rules.specs.declared.state.Desk.{Desk}
 use Rattle.set_rules.specs.declared.state.LineSet.{LineSet}
 use Rattle.set_rules.specs.declared.state.Entry.{Entry}
+use Rattle.set_rules.proofs.ByKind.{pick-matched}
 use Rattle.set_rules.proofs.Received.{Like, AllLike, space-like, received-like, like-self, like-append}
 
 -- ---- lists of channels
@@ -121,9 +121,69 @@ module _ (B : ℕ) where
       ap (λ (p : ℕ). getD (take (s .size .channels) (hides (s .channels))) p noChannel) (place-hide (s .size .channels) ch (s .channels))
       ∙ at-hide (s .size .channels) (placeIn s ch) (s .channels)
 
+  -- a row that goes by what is left of the set
+  abbrev Blind : LineSet → List ℕ → Reading → Entry → ℕ × Test → Type 0
+  Blind s e r x row = (row .1) (hideSet s) e r x ≡ (row .1) s e r x
+
+  rows-hide : (s : LineSet) (e : List ℕ) (r : Reading) (x : Entry) (rows : List (ℕ × Test)) → Each (Blind s e r x) rows
+      → firstOf rows (hideSet s) e r x ≡ firstOf rows s e r x
+  unfolding firstOf
+  rows-hide s e r x [] w = refl
+  rows-hide s e r x (row ∷ rows) w = rw (w .0, rows-hide s e r x rows (w .1))
+
+  has-hide : (s : LineSet) (ch : ℕ) → hasChannel (hideSet s) ch ≡ hasChannel s ch
+  has-hide s ch = simp (place-hide, count-hide) refl
+
+  use-hide : (s : LineSet) (d ch : ℕ) → mayUse (hideSet s) d ch ≡ mayUse s d ch
+  use-hide s d ch = simp (has-hide s ch, channelAt-hide s ch) refl
+
+  ask-hide : (s : LineSet) (d : ℕ) (q : Request) → mayAsk (hideSet s) d q ≡ mayAsk s d q
+  ask-hide s d tellsTime = refl
+  ask-hide s d (tellsState a) = refl
+  ask-hide s d (asksChannel ch n o) = use-hide s d ch
+  ask-hide s d foreign = refl
+
+  blind : (s : LineSet) (e : List ℕ) (r : Reading) (x : Entry) → Each (Blind s e r x) table
+  blind s e r x =
+      -- 4 to 11 do not look at a channel
+      (
+        refl,
+        (
+          refl,
+          (
+            refl,
+            (
+              refl,
+              (
+                refl,
+                (
+                  refl,
+                  (
+                    refl,
+                    (
+                      refl,
+                      (
+                        rw (ask-hide s (x .desk) (askedIn r), use-hide s (x .desk) (x .channel), has-hide s (x .channel)),
+                        (
+                          refl,
+                          (
+                            rw (channelAt-hide s (x .channel)),
+                            (simp (channelAt-hide s (x .channel), present-hide B) refl, tt),
+                          ),
+                        ),
+                      ),
+                    ),
+                  ),
+                ),
+              ),
+            ),
+          ),
+        ),
+      )
+
   refusal-hide : (s : LineSet) (e : List ℕ) (x : Entry) → refusalOf (hideSet s) e x ≡ refusalOf s e x
-  unfolding refusalOf firstOf
-  refusal-hide s e x = simp (place-hide, count-hide, at-hide, present-hide B) refl
+  unfolding refusalOf
+  refusal-hide s e x = rw (rows-hide s e (readTelegram (telegramIn e)) x table (blind s e (readTelegram (telegramIn e)) x))
 
   -- ---- what an effect shows B, and what it leaves
 
@@ -269,22 +329,17 @@ module _ (B : ℕ) where
 
   -- ---- every accepted entry
 
-  either : (t : Bool) (f g f′ g′ : Effect) → shown f ≡ shown f′ → shown g ≡ shown g′ → shown (cond t f g) ≡ shown (cond t f′ g′)
-  either true f g f′ g′ p q = p
-  either false f g f′ g′ p q = q
-
   time-hide : (s : LineSet) (d : ℕ) → shown (timeTaken (hideSet s) d) ≡ shown (timeTaken s d)
   time-hide s d = rw (hides-twice (s .channels))
 
   answer-hide : (s : LineSet) (d a : ℕ) → shown (answerTaken (hideSet s) d a) ≡ shown (answerTaken s d a)
   answer-hide s d a = rw (hides-twice (s .channels))
 
-  reading-hide : (s : LineSet) (d : ℕ) (r : Reading) → shown (onReading (hideSet s) d r) ≡ shown (onReading s d r)
-  reading-hide s d (Telegram c m) =
-      either (eqb (rowOf m .id) 550411) _ _ _ _ (time-hide s d)
-      (either (eqb (rowOf m .id) 550421) _ _ _ _ (answer-hide s d (nth (valuesOf m) 1))
-      (on-hide s (nth (valuesOf m) 0) d (cond (eqb (nth (valuesOf m) 3) 1) (Capture d) (Release d))))
-  reading-hide s d (Refused n c i) = rw (hides-twice (s .channels))
+  request-hide : (s : LineSet) (d : ℕ) (q : Request) → shown (onRequest (hideSet s) d q) ≡ shown (onRequest s d q)
+  request-hide s d tellsTime = time-hide s d
+  request-hide s d (tellsState a) = answer-hide s d a
+  request-hide s d (asksChannel ch n o) = on-hide s ch d (cond (eqb o 1) (Capture d) (Release d))
+  request-hide s d foreign = rw (hides-twice (s .channels))
 
   holder-hide : (s : LineSet) (ch : ℕ) (v : Event) → shown (byHolder (hideSet s) ch v) ≡ shown (byHolder s ch v)
   holder-hide s ch v =
@@ -292,36 +347,53 @@ module _ (B : ℕ) where
       ap (λ (c : Channel). holderPlace (c .holder)) (channelAt-hide s ch) in
       ap (λ (d : ℕ). shown (onChannel (hideSet s) ch d v)) p ∙ on-hide s ch (holderPlace (channelAt s ch .holder)) v
 
-  abbrev byKind : ℕ → Effect → Effect → Effect → Effect → Effect → Effect → Effect → Effect → Effect
-  byKind k f₁ f₂ f₃ f₄ f₅ f₆ f₇ f₈ =
-      cond (eqb k 1) f₁ (cond (eqb k 2) f₂ (cond (eqb k 3) f₃ (cond (eqb k 4) f₄ (cond (eqb k 5) f₅ (cond (eqb k 6) f₆ (cond (eqb k 7) f₇ f₈))))))
-
-  by-kind : (k : ℕ) (f₁ f₂ f₃ f₄ f₅ f₆ f₇ f₈ g₁ g₂ g₃ g₄ g₅ g₆ g₈ : Effect) → shown f₁ ≡ shown g₁ → shown f₂ ≡ shown g₂ → shown f₃ ≡ shown g₃
-      → shown f₄ ≡ shown g₄ → shown f₅ ≡ shown g₅ → shown f₆ ≡ shown g₆ → shown f₈ ≡ shown g₈
-      → shown (byKind k f₁ f₂ f₃ f₄ f₅ f₆ f₇ f₈) ≡ shown (byKind k g₁ g₂ g₃ g₄ g₅ g₆ f₇ g₈)
-  by-kind k f₁ f₂ f₃ f₄ f₅ f₆ f₇ f₈ g₁ g₂ g₃ g₄ g₅ g₆ g₈ p₁ p₂ p₃ p₄ p₅ p₆ p₈ =
-      either (eqb k 1) _ _ _ _ p₁
-      (either (eqb k 2) _ _ _ _ p₂
-      (either (eqb k 3) _ _ _ _ p₃
-      (either (eqb k 4) _ _ _ _ p₄
-      (either (eqb k 5) _ _ _ _ p₅
-      (either (eqb k 6) _ _ _ _ p₆
-      (either (eqb k 7) f₇ f₈ f₇ g₈ refl p₈))))))
-
   accepted-hide : (s : LineSet) (e : List ℕ) (x : Entry) → shown (accepted (hideSet s) e x) ≡ shown (accepted s e x)
   unfolding accepted
   accepted-hide s e x =
-      let t = hideSet s in
-      let r = readTelegram (telegramIn e) in
-      let press : Event = cond (eqb (x .on) 1) PressOn PressOff in
-      let mobile : Event = MobileOn (x .base) (numberIn (x .number)) in
-      by-kind (x .kind)
-      (onReading t (x .desk) r) (byHolder t (x .channel) press) (byHolder t (x .channel) Cut) (byHolder t (x .channel) mobile)
-      (byHolder t (x .channel) MobileOff) (onTick t) (onPlan (planIn e)) (onHandover t)
-      (onReading s (x .desk) r) (byHolder s (x .channel) press) (byHolder s (x .channel) Cut) (byHolder s (x .channel) mobile)
-      (byHolder s (x .channel) MobileOff) (onTick s) (onHandover s)
-      (reading-hide s (x .desk) r) (holder-hide s (x .channel) press) (holder-hide s (x .channel) Cut) (holder-hide s (x .channel) mobile)
-      (holder-hide s (x .channel) MobileOff) (tick-hide s) (handover-hide s)
+      pick-matched (λ f g. shown f ≡ shown g) (x .kind) (effect (hideSet s) (hideSet s) []) (effect s s []) (ways (hideSet s) e x) (ways s e x)
+      (rw (hides-twice (s .channels))) (
+        refl,
+        (
+          request-hide s (x .desk) (askedIn (readTelegram (telegramIn e))),
+          (
+            refl,
+            (
+              holder-hide s (x .channel) (cond (eqb (x .on) 1) PressOn PressOff),
+              (
+                refl,
+                (
+                  holder-hide s (x .channel) Cut,
+                  (
+                    refl,
+                    (
+                      holder-hide s (x .channel) (MobileOn (x .base) (numberIn (x .number))),
+                      (
+                        refl,
+                        (
+                          holder-hide s (x .channel) MobileOff,
+                          (
+                            refl,
+                            (
+                              tick-hide s,
+                              (
+                                refl,
+                                (
+                                  refl,
+                                  (refl, (handover-hide s, tt)),
+                                ),
+                              ),
+                            ),
+                          ),
+                        ),
+                      ),
+                    ),
+                  ),
+                ),
+              ),
+            ),
+          ),
+        ),
+      )
 
   -- ---- one entry: what B sees of it, and what is left of the set
 
@@ -339,51 +411,83 @@ module _ (B : ℕ) where
   viewBy n w h room =
       cond (eqb n 0) (cond (leb (w .space) room) (viewed 0 (w .space) (w .got) (w .left)) (viewed 16 0 [] h)) (viewed n 0 [] h)
 
-  view-is : (s : LineSet) (e : List ℕ) (room : ℕ)
-      → view s e room ≡ viewBy (refusalOf s e (readEntry e)) (shown (accepted s e (readEntry e))) (hideSet s) room
+  abbrev viewOf : LineSet → List ℕ → Entry → ℕ → View
+  viewOf s e x room = viewBy (refusalOf s e x) (shown (accepted s e x)) (hideSet s) room
+
+  view-is : (s : LineSet) (e : List ℕ) (room : ℕ) → view s e room ≡ viewOf s e (readEntry e) room
   unfolding stepOf ofDesk
   view-is s e room = go (eqb (refusalOf s e (readEntry e)) 0) refl (leb (spaceOf (accepted s e (readEntry e) .sent)) room) refl
     where
       go : (t : Bool) → eqb (refusalOf s e (readEntry e)) 0 ≡ t → (u : Bool) → leb (spaceOf (accepted s e (readEntry e) .sent)) room ≡ u
-          → view s e room ≡ viewBy (refusalOf s e (readEntry e)) (shown (accepted s e (readEntry e))) (hideSet s) room
+          → view s e room ≡ viewOf s e (readEntry e) room
       go true k true l = rw (k, l)
       go true k false l = rw (k, l)
       go false k u l = rw k
 
   -- what is left of a set shows B all that the set does
-  view-hide : (s : LineSet) (e : List ℕ) (room : ℕ) → view (hideSet s) e room ≡ view s e room
-  view-hide s e room =
-      let x = readEntry e in
-      let t : hideSet (hideSet s) ≡ hideSet s = ap (λ (l : List Channel). withChannels l s) (hides-twice (s .channels)) in
-      view-is (hideSet s) e room
-      ∙ ap (λ (n : ℕ). viewBy n (shown (accepted (hideSet s) e x)) (hideSet (hideSet s)) room) (refusal-hide s e x)
+  viewOf-hide : (s : LineSet) (e : List ℕ) (x : Entry) (room : ℕ) → viewOf (hideSet s) e x room ≡ viewOf s e x room
+  viewOf-hide s e x room =
+      let h : hideSet (hideSet s) ≡ hideSet s = ap (λ (l : List Channel). withChannels l s) (hides-twice (s .channels)) in
+      ap (λ (n : ℕ). viewBy n (shown (accepted (hideSet s) e x)) (hideSet (hideSet s)) room) (refusal-hide s e x)
       ∙ ap (λ (w : Shown). viewBy (refusalOf s e x) w (hideSet (hideSet s)) room) (accepted-hide s e x)
-      ∙ ap (λ (h : LineSet). viewBy (refusalOf s e x) (shown (accepted s e x)) h room) t
-      ∙ sym (view-is s e room)
+      ∙ ap (λ (l : LineSet). viewBy (refusalOf s e x) (shown (accepted s e x)) l room) h
 
-  view-same : (s s′ : LineSet) → hideSet s ≡ hideSet s′ → (e : List ℕ) (room : ℕ) → view s e room ≡ view s′ e room
-  view-same s s′ h e room = sym (view-hide s e room) ∙ ap (λ (t : LineSet). view t e room) h ∙ view-hide s′ e room
+  viewOf-same : (s s′ : LineSet) → hideSet s ≡ hideSet s′ → (e : List ℕ) (x : Entry) (room : ℕ) → viewOf s e x room ≡ viewOf s′ e x room
+  viewOf-same s s′ h e x room = sym (viewOf-hide s e x room) ∙ ap (λ (u : LineSet). viewOf u e x room) h ∙ viewOf-hide s′ e x room
 
-  -- ---- mobile ons that differ in their numbers
+  -- ---- entries that differ
 
-  -- what a mobile on asks for, by whether its base is one
-  abbrev askedIf : Bool → ℕ → ℕ → Digits → Entry
-  askedIf t ch b d = cond t (asks 4 0 ch 0 b d) (bad 3)
+  -- an entry that could be read, or the refusal that it gets
+  abbrev chosen : Bool → Bool → Bool → Entry → Entry
+  chosen u v w x = cond u (cond v (cond w x (bad 3)) (bad 2)) (bad 1)
 
-  read-mobile : (ch b : ℕ) (n : List ℕ) → length n ≡ 8 → readEntry (mobileEntry ch b n) ≡ askedIf (leb b 29) ch b (digitsIn n)
-  unfolding readEntry
-  read-mobile ch b n l =
-      let t : take 8 n ≡ n = take-all 8 n (omega (arith, l)) in
-      simp (t, l) refl
+  -- two that show the same where they could be read show the same
+  chosen-viewed : (s : LineSet) (e e′ : List ℕ) (x x′ : Entry) (room : ℕ) (u v w : Bool)
+      → (chosen u v w x ≡ x → viewOf s e x room ≡ viewOf s e′ x′ room) → viewOf s e (chosen u v w x) room ≡ viewOf s e′ (chosen u v w x′) room
+  unfolding refusalOf
+  chosen-viewed s e e′ x x′ room true true true p = p refl
+  chosen-viewed s e e′ x x′ room true true false p = refl
+  chosen-viewed s e e′ x x′ room true false w p = refl
+  chosen-viewed s e e′ x x′ room false v w p = refl
 
-  refusal-number : (t : Bool) (s : LineSet) (e e′ : List ℕ) (ch b : ℕ) (d d′ : Digits) → isCaller d ≡ isCaller d′
-      → refusalOf s e (askedIf t ch b d) ≡ refusalOf s e′ (askedIf t ch b d′)
+  -- the rows and the rules show the same
+  both-viewed : (s : LineSet) (e e′ : List ℕ) (x x′ : Entry) (room : ℕ) → refusalOf s e x ≡ refusalOf s e′ x′
+      → shown (accepted s e x) ≡ shown (accepted s e′ x′) → viewOf s e x room ≡ viewOf s e′ x′ room
+  both-viewed s e e′ x x′ room p q =
+      ap (λ (n : ℕ). viewBy n (shown (accepted s e x)) (hideSet s) room) p ∙ ap (λ (f : Shown). viewBy (refusalOf s e′ x′) f (hideSet s) room) q
+
+  -- a byte before those that differ
+  byte-alike : (at n : ℕ) (e e′ : List ℕ) → AlikeBut at n e e′ → (i : ℕ) → i < at → byte e i ≡ byte e′ i
+  byte-alike at n e e′ w i h = sym (getD-take at e i 0 h) ∙ ap (λ (l : List ℕ). getD l i 0) (w .front) ∙ getD-take at e′ i 0 h
+
+  -- ---- mobile ons
+
+  abbrev mobileOf : List ℕ → Digits → Entry
+  mobileOf e d = asks 4 0 (byte e 4) 0 (byte e 5) d
+
+  -- a mobile on with these digits for its number
+  abbrev readAs : List ℕ → Digits → Entry
+  readAs e d = chosen (measured e) (eqb (byte e 2) 1) (sizeOk 4 (length e) && leb (byte e 5) 29) (mobileOf e d)
+
+  flat : (a b : Bool) (x y : Entry) → cond (a && true && b) x y ≡ cond (a && b) x y
+  flat true b x y = refl
+  flat false b x y = refl
+
+  read-mobile : (e : List ℕ) → byte e 3 ≡ 4 → readEntry e ≡ readAs e (mobileIn e)
+  unfolding readEntry pick
+  read-mobile e k = rw k (simp flat refl)
+
+  read-but : (e e′ : List ℕ) (d : Digits) → AlikeBut 6 8 e e′ → readAs e d ≡ readAs e′ d
+  unfolding pick
+  read-but e e′ d w =
+      let b : (i : ℕ) → i < 6 → byte e i ≡ byte e′ i = byte-alike 6 8 e e′ w in
+      simp (w .long, b 0 (omega arith), b 1 (omega arith), b 2 (omega arith), b 4 (omega arith), b 5 (omega arith)) refl
+
+  -- the rows look at a mobile's number only to see whether it can be one
+  refusal-number : (s : LineSet) (e e′ : List ℕ) (ch b : ℕ) (d d′ : Digits) → isCaller d ≡ isCaller d′
+      → refusalOf s e (asks 4 0 ch 0 b d) ≡ refusalOf s e′ (asks 4 0 ch 0 b d′)
   unfolding refusalOf firstOf
-  refusal-number true s e e′ ch b (Value v) (Value v′) h = simp h refl
-  refusal-number true s e e′ ch b (Value v) Malformed h = simp h refl
-  refusal-number true s e e′ ch b Malformed (Value v′) h = simp (sym h) refl
-  refusal-number true s e e′ ch b Malformed Malformed h = refl
-  refusal-number false s e e′ ch b d d′ h = refl
+  refusal-number s e e′ ch b d d′ h = rw h refl
 
   -- a mobile on under another desk shows B the same whatever its number
   number-shown : (s : LineSet) (ch b : ℕ) (n n′ : Number) → OtherHolds B (channelAt s ch .holder)
@@ -401,43 +505,32 @@ module _ (B : ℕ) where
 
   accepted-number : (s : LineSet) (e e′ : List ℕ) (ch b : ℕ) (d d′ : Digits) → OtherHolds B (channelAt s ch .holder)
       → shown (accepted s e (asks 4 0 ch 0 b d)) ≡ shown (accepted s e′ (asks 4 0 ch 0 b d′))
-  unfolding accepted
+  unfolding accepted pick
   accepted-number s e e′ ch b d d′ o = number-shown s ch b (numberIn d) (numberIn d′) o
 
-  abbrev viewOf : LineSet → List ℕ → Entry → ℕ → View
-  viewOf s e x room = viewBy (refusalOf s e x) (shown (accepted s e x)) (hideSet s) room
-
-  asked-number : (t : Bool) (s : LineSet) (e e′ : List ℕ) (ch b : ℕ) (d d′ : Digits) (room : ℕ) → isCaller d ≡ isCaller d′
-      → OtherHolds B (channelAt s ch .holder) → viewOf s e (askedIf t ch b d) room ≡ viewOf s e′ (askedIf t ch b d′) room
-  unfolding refusalOf
-  asked-number true s e e′ ch b d d′ room h o =
-      ap (λ (k : ℕ). viewBy k (shown (accepted s e (askedIf true ch b d))) (hideSet s) room) (refusal-number true s e e′ ch b d d′ h)
-      ∙ ap (λ (f : Shown). viewBy (refusalOf s e′ (askedIf true ch b d′)) f (hideSet s) room) (accepted-number s e e′ ch b d d′ o)
-  asked-number false s e e′ ch b d d′ room h o = refl
-
-  view-mobile : (s : LineSet) (ch b : ℕ) (n : List ℕ) (room : ℕ) → length n ≡ 8
-      → view s (mobileEntry ch b n) room ≡ viewOf s (mobileEntry ch b n) (askedIf (leb b 29) ch b (digitsIn n)) room
-  view-mobile s ch b n room l =
-      view-is s (mobileEntry ch b n) room ∙ ap (λ (x : Entry). viewOf s (mobileEntry ch b n) x room) (read-mobile ch b n l)
-
-  view-number : (s : LineSet) (ch b : ℕ) (n n′ : List ℕ) (room : ℕ) → Exchanged n n′ → OtherHolds B (channelAt s ch .holder)
-      → view s (mobileEntry ch b n) room ≡ view s (mobileEntry ch b n′) room
-  view-number s ch b n n′ room w o =
-      view-mobile s ch b n room (w .eight)
-      ∙ asked-number (leb b 29) s (mobileEntry ch b n) (mobileEntry ch b n′) ch b (digitsIn n) (digitsIn n′) room (w .callers) o
-      ∙ sym (view-mobile s ch b n′ room (w .eight′))
+  mobile-viewed : (s : LineSet) (e e′ : List ℕ) (room : ℕ) → Renumbered e e′ → OtherHolds B (channelAt s (byte e 4) .holder)
+      → viewOf s e (readEntry e) room ≡ viewOf s e′ (readEntry e′) room
+  mobile-viewed s e e′ room w o =
+      let k′ : byte e′ 3 ≡ 4 = sym (byte-alike 6 8 e e′ (w .bytes) 3 (omega arith)) ∙ w .kind-is in
+      let d = mobileIn e in
+      let d′ = mobileIn e′ in
+      let reads : readAs e d ≡ mobileOf e d → readEntry e .refusal ≡ 0 = λ p. ap (λ (x : Entry). x .refusal) (read-mobile e (w .kind-is) ∙ p) in
+      ap (λ (x : Entry). viewOf s e x room) (read-mobile e (w .kind-is))
+      ∙ chosen-viewed s e e′ (mobileOf e d) (mobileOf e d′) room (measured e) (eqb (byte e 2) 1) (sizeOk 4 (length e) && leb (byte e 5) 29)
+      (λ p. both-viewed s e e′ (mobileOf e d) (mobileOf e d′) room
+      (refusal-number s e e′ (byte e 4) (byte e 5) d d′ (w .callers (reads p)))
+      (accepted-number s e e′ (byte e 4) (byte e 5) d d′ o))
+      ∙ ap (λ (x : Entry). viewOf s e′ x room) (read-but e e′ d′ (w .bytes) ∙ sym (read-mobile e′ k′))
 
   -- ---- whole feeds
 
-  view-alike : (s s′ : LineSet) → hideSet s ≡ hideSet s′ → (e e′ : List ℕ) (room : ℕ) → Alike B s e e′ → view s e room ≡ view s′ e′ room
-  view-alike s s′ h e e′ room (same p) = view-same s s′ h e room ∙ ap (λ (l : List ℕ). view s′ l room) p
-  view-alike s s′ h e e′ room (numbers ch b n n′ p p′ w o) =
-      ap (λ (l : List ℕ). view s l room) p
-      ∙ view-number s ch b n n′ room w o
-      ∙ view-same s s′ h (mobileEntry ch b n′) room
-      ∙ ap (λ (l : List ℕ). view s′ l room) (sym p′)
+  view-alike : (s s′ : LineSet) → hideSet s ≡ hideSet s′ → (e e′ : List ℕ) (room : ℕ) → MayDiffer B s e e′ → view s e room ≡ view s′ e′ room
+  view-alike s s′ h e e′ room (same p) =
+      view-is s e room ∙ viewOf-same s s′ h e (readEntry e) room ∙ sym (view-is s′ e room) ∙ ap (λ (l : List ℕ). view s′ l room) p
+  view-alike s s′ h e e′ room (talks w o) =
+      view-is s e room ∙ mobile-viewed s e e′ room w o ∙ viewOf-same s s′ h e′ (readEntry e′) room ∙ sym (view-is s′ e′ room)
 
-  views-alike : (s s′ : LineSet) (f f′ : List Item) → hideSet s ≡ hideSet s′ → Related B s f f′ → views B s f ≡ views B s′ f′
+  views-alike : (s s′ : LineSet) (f f′ : List Item) → hideSet s ≡ hideSet s′ → Related B s s′ f f′ → views B s f ≡ views B s′ f′
   unfolding views
   views-alike s s′ [] [] h none = refl
   views-alike s s′ (i ∷ f) (i′ ∷ f′) h (more a r rest) =

@@ -5,6 +5,7 @@ pub mod Isolation
 pub mod Witness
 pub mod Elements
 pub mod Each
+pub mod ByKind
 pub mod Rows
 pub mod Ticks
 pub mod AllMarked

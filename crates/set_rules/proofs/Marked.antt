@@ -9,6 +9,7 @@ use Rattle.telegram.specs.Promises.{spelled}
 use Rattle.channel.specs.State.{isIn}
 use Rattle.line_rules.specs.Rules.{capture, handover, happens}
 use Rattle.set_rules.specs.State.{placeOf, runningFrom}
+use Rattle.set_rules.specs.ByKind.{pick}
 use Rattle.set_rules.specs.Entries.{readEntry}
 use Rattle.set_rules.specs.Plan.{desksOk, desksIn, hasNumber, distinct, channelsOk, channelsIn, planOk, setOf}
 use Rattle.set_rules.specs.Refusals.{firstOf, refusalOf}
@@ -18,9 +19,9 @@ use Rattle.set_rules.specs.Feeds.{stepOf, run, after}
 use Rattle.set_rules.specs.Promises.{Listed, listingLines, Hold, cases}
 
 pub listed : Listed
-unfolding listingLines spelled onesIn digitsOf allDigits valueFrom bodyOk valuesIn bytesOf headerOk readTelegram telegramOf isIn capture handover happens placeOf runningFrom readEntry desksOk desksIn hasNumber distinct channelsOk channelsIn planOk setOf firstOf refusalOf delivered toEach recordsOf spaceOf onChannel sendsOf onHandover accepted stepOf run after
+unfolding listingLines spelled onesIn digitsOf allDigits valueFrom bodyOk valuesIn bytesOf headerOk readTelegram telegramOf isIn capture handover happens placeOf runningFrom readEntry desksOk desksIn hasNumber distinct channelsOk channelsIn planOk setOf firstOf refusalOf delivered toEach recordsOf spaceOf onChannel sendsOf onHandover pick accepted stepOf run after
 listed = refl
 
 pub entries-hold : Hold cases
-unfolding cases spelled onesIn digitsOf allDigits valueFrom bodyOk valuesIn bytesOf headerOk readTelegram telegramOf isIn capture handover happens placeOf runningFrom readEntry desksOk desksIn hasNumber distinct channelsOk channelsIn planOk setOf firstOf refusalOf delivered toEach recordsOf spaceOf onChannel sendsOf onHandover accepted stepOf run after
+unfolding cases spelled onesIn digitsOf allDigits valueFrom bodyOk valuesIn bytesOf headerOk readTelegram telegramOf isIn capture handover happens placeOf runningFrom readEntry desksOk desksIn hasNumber distinct channelsOk channelsIn planOk setOf firstOf refusalOf delivered toEach recordsOf spaceOf onChannel sendsOf onHandover pick accepted stepOf run after
 entries-hold = (refl, (refl, (refl, (refl, tt))))

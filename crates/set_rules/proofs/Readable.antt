@@ -14,11 +14,10 @@ use Rattle.fields.specs.Fields.{allIn, between}
 use Rattle.fields.specs.declared.digits.Digits.{Digits}
 use Rattle.fields.specs.declared.digits.Digits.the-variants.{Value, Malformed}
 use Rattle.fields.proofs.DigitLaws.{both, value-below}
-use Rattle.telegram.specs.Telegram.{num, nth, inRange, rowOf, valuesOf, readTelegram, telegramOf}
+use Rattle.telegram.specs.Telegram.{num, inRange, readTelegram, telegramOf}
 use Rattle.telegram.specs.declared.message.Message.{Message}
 use Rattle.telegram.specs.declared.message.Message.the-variants.{TimeRequest, OperationRequest}
-use Rattle.telegram.specs.declared.message.Reading.{Reading}
-use Rattle.telegram.specs.declared.message.Reading.the-variants.{Telegram, Refused}
+use Rattle.telegram.specs.declared.message.Reading.the-variants.{Telegram}
 use Rattle.telegram.proofs.RoundTrip.{reads-back}
 use Rattle.channel.specs.State.{only, firstDesks, holderPlace}
 use Rattle.line_rules.specs.Rules.{Step, happens}
@@ -30,9 +29,9 @@ use Rattle.channel.specs.declared.state.Send.{Send}
 use Rattle.set_rules.specs.State.{newSet, noDesk, noChannel, deskAt, channelsOf, placeIn, channelAt, timeTold, answered, withLink}
 use Rattle.set_rules.specs.Entries.{byte, word, readEntry, measured, bad, payload, payloadOk, sizeOk, telegramIn, planIn}
 use Rattle.set_rules.specs.Plan.{deskOk, desksOk, desksIn, channelsOk, channelsIn, deskCount, desksPart, channelCount, channelsPart, distinct, planOk, filled, setOf}
-use Rattle.set_rules.specs.Refusals.{refusalOf}
+use Rattle.set_rules.specs.Refusals.{Request, tellsTime, tellsState, asksChannel, foreign, askedIn, refusalOf}
 use Rattle.set_rules.specs.Records.{Delivery, delivered}
-use Rattle.set_rules.specs.SetRules.{Effect, effect, telegramTo, contextOf, happensIn, nextsOf, sendsOf, onChannel, byHolder, onTick, onHandover, onPlan, onReading, timeTaken, answerTaken, numberIn, accepted}
+use Rattle.set_rules.specs.SetRules.{Effect, effect, telegramTo, contextOf, happensIn, nextsOf, sendsOf, onChannel, byHolder, onTick, onHandover, onPlan, onRequest, ways, timeTaken, answerTaken, numberIn, accepted}
 use Rattle.set_rules.specs.Feeds.{Item, stepOf, stepBy, after}
 use Rattle.set_rules.specs.Invariant.{NumberOk, ChannelOk, DeskOk, Each, SetOk}
 use Rattle.set_rules.specs.Promises.{AllRead, Readable, InRange}
@@ -40,9 +39,10 @@ use Rattle.set_rules.specs.declared.state.Link.{Link}
 use Rattle.set_rules.specs.declared.state.Desk.{Desk}
 use Rattle.set_rules.specs.declared.state.LineSet.{LineSet}
 use Rattle.set_rules.specs.declared.state.Entry.{Entry}
+use Rattle.set_rules.proofs.ByKind.{pick-each}
 use Rattle.set_rules.proofs.Answers.{refused, accepted-after}
 use Rattle.set_rules.proofs.Each.{each-at, each-set, each-take, each-drop, each-append, each-same}
-use Rattle.set_rules.proofs.Rows.{rows-fail}
+use Rattle.set_rules.proofs.Rows.{no-row}
 use Rattle.set_rules.proofs.Ranges.{ContentOk, NoticeOk, in-range, SendsOk, StepOk, EventOk, happens-ok}
 
 -- ---- what fills the arrays
@@ -89,10 +89,6 @@ plain-reads ds o to m h = (λ d m′ e. content-reads (getD ds d noDesk .code) (
 record EffectOk (f : Effect) : Type 0 where
   set-ok : SetOk (f .after)
   sent-ok : AllRead (f .desks) (f .sent)
-
-either : (t : Bool) (f g : Effect) → EffectOk f → EffectOk g → EffectOk (cond t f g)
-either true f g p q = p
-either false f g p q = q
 
 module _ (s : LineSet) (ok : SetOk s) where
   own-ok : (d : ℕ) → NumberOk (deskAt s d .number)
@@ -158,12 +154,11 @@ module _ (s : LineSet) (ok : SetOk s) where
   press-ok true = tt
   press-ok false = tt
 
-  reading-ok : (d : ℕ) (r : Reading) → EffectOk (onReading s d r)
-  reading-ok d (Telegram c m) =
-      either (eqb (rowOf m .id) 550411) _ _ (time-ok d)
-      (either (eqb (rowOf m .id) 550421) _ _ (answer-ok d (nth (valuesOf m) 1))
-      (on-ok (nth (valuesOf m) 0) d _ (order-ok (eqb (nth (valuesOf m) 3) 1) d)))
-  reading-ok d (Refused n c i) = record { set-ok = ok; sent-ok = tt }
+  request-ok : (d : ℕ) (q : Request) → EffectOk (onRequest s d q)
+  request-ok d tellsTime = time-ok d
+  request-ok d (tellsState a) = answer-ok d a
+  request-ok d (asksChannel ch n o) = on-ok ch d _ (order-ok (eqb o 1) d)
+  request-ok d foreign = record { set-ok = ok; sent-ok = tt }
 
 -- ---- a plan that keeps its rules
 
@@ -249,10 +244,8 @@ asked-ok e = go (measured e) (eqb (byte e 2) 1) (payloadOk (byte e 3) e) refl
     go false u v h = bad-ok 1
 
 -- an accepted plan keeps the rules of a plan: row 6
-plan-kept : (s : LineSet) (e : List ℕ) (x : Entry) → refusalOf s e x ≡ 0 → eqb (x .kind) 7 ≡ true → planOk (planIn e) ≡ true
-plan-kept s e x z k =
-    let t = rows-fail s e x z in
-    go (planOk (planIn e)) (rw k at (t .1 .1 .0))
+plan-kept : (s : LineSet) (e : List ℕ) (x : Entry) → refusalOf s e x ≡ 0 → x .kind ≡ 7 → planOk (planIn e) ≡ true
+plan-kept s e x z k = go (planOk (planIn e)) (rw k at (no-row s e x z .row6-fails))
   where
     go : (t : Bool) → not t ≡ false → t ≡ true
     go true h = refl
@@ -260,20 +253,31 @@ plan-kept s e x z k =
 
 -- ---- every accepted entry, every entry, every feed
 
-plan-if : (t : Bool) (p : List ℕ) (g : Effect) → (t ≡ true → planOk p ≡ true) → EffectOk g → EffectOk (cond t (onPlan p) g)
-plan-if true p g h q = plan-ok p (h refl)
-plan-if false p g h q = q
-
 accepted-ok : (s : LineSet) → SetOk s → (e : List ℕ) (x : Entry) → AskedOk x → refusalOf s e x ≡ 0 → EffectOk (accepted s e x)
 unfolding accepted
 accepted-ok s ok e x a z =
-    either (eqb (x .kind) 1) _ _ (reading-ok s ok (x .desk) (readTelegram (telegramIn e)))
-    (either (eqb (x .kind) 2) _ _ (on-ok s ok (x .channel) _ _ (press-ok s ok (eqb (x .on) 1)))
-    (either (eqb (x .kind) 3) _ _ (on-ok s ok (x .channel) _ Cut tt)
-    (either (eqb (x .kind) 4) _ _ (on-ok s ok (x .channel) _ _ a)
-    (either (eqb (x .kind) 5) _ _ (on-ok s ok (x .channel) _ MobileOff tt)
-    (either (eqb (x .kind) 6) _ _ (tick-ok s ok)
-    (plan-if (eqb (x .kind) 7) (planIn e) _ (plan-kept s e x z) (handover-ok s ok)))))))
+    pick-each EffectOk (x .kind) _ (ways s e x) (record { set-ok = ok; sent-ok = tt }) (
+      λ k. request-ok s ok (x .desk) (askedIn (readTelegram (telegramIn e))),
+      (
+        λ k. on-ok s ok (x .channel) _ _ (press-ok s ok (eqb (x .on) 1)),
+        (
+          λ k. on-ok s ok (x .channel) _ Cut tt,
+          (
+            λ k. on-ok s ok (x .channel) _ _ a,
+            (
+              λ k. on-ok s ok (x .channel) _ MobileOff tt,
+              (
+                λ k. tick-ok s ok,
+                (
+                  λ k. plan-ok (planIn e) (plan-kept s e x z k),
+                  (λ k. handover-ok s ok, tt),
+                ),
+              ),
+            ),
+          ),
+        ),
+      ),
+    )
 
 step-ok : (s : LineSet) (i : Item) → SetOk s → SetOk (stepBy s i .after)
 step-ok s i ok = go (eqb (stepBy s i .refusal) 0) refl

@@ -10,7 +10,7 @@ use borrow.Author.Tests.{eq-eqb}
 use Rattle.telegram.specs.Telegram.{readTelegram}
 use Rattle.telegram.specs.declared.message.Reading.{Reading}
 use Rattle.set_rules.specs.Entries.{telegramIn}
-use Rattle.set_rules.specs.Refusals.{Test, firstOf, refusalOf, table}
+use Rattle.set_rules.specs.Refusals.{Test, row4, row6, row12, row14, row15, firstOf, refusalOf, table}
 use Rattle.set_rules.specs.Invariant.{Each}
 use Rattle.set_rules.specs.declared.state.LineSet.{LineSet}
 use Rattle.set_rules.specs.declared.state.Entry.{Entry}
@@ -35,10 +35,27 @@ module _ (s : LineSet) (e : List ℕ) (x : Entry) where
   numbered : Each Refuses table
   numbered = (λ p. omega arith, (λ p. omega arith, (λ p. omega arith, (λ p. omega arith, (λ p. omega arith, (λ p. omega arith, (λ p. omega arith, (λ p. omega arith, (λ p. omega arith, (λ p. omega arith, (λ p. omega arith, (λ p. omega arith, tt))))))))))))
 
-  pub rows-fail : refusalOf s e x ≡ 0 → Each Fails table
+  rows-fail : refusalOf s e x ≡ 0 → Each Fails table
   unfolding refusalOf
   rows-fail z = none-holds table numbered (go (eqb (x .refusal) 0) refl)
     where
       go : (t : Bool) → eqb (x .refusal) 0 ≡ t → firstOf table s e (readTelegram (telegramIn e)) x ≡ 0
       go true k = rw k at z
       go false k = absurd (false≢true (sym k ∙ eq-eqb _ 0 (rw k at z)))
+
+  abbrev fails : Test → Type 0
+  fails row = row s e (readTelegram (telegramIn e)) x ≡ false
+
+  -- the rows that a proof goes by, by their numbers
+  pub record NoRow : Type 0 where
+    pub row4-fails : fails row4
+    pub row6-fails : fails row6
+    pub row12-fails : fails row12
+    pub row14-fails : fails row14
+    pub row15-fails : fails row15
+
+  pub no-row : refusalOf s e x ≡ 0 → NoRow
+  no-row z =
+      let t = rows-fail z in
+      let from12 = t .1 .1 .1 .1 .1 .1 .1 .1 in
+      record { row4-fails = t .0; row6-fails = t .1 .1 .0; row12-fails = from12 .0; row14-fails = from12 .1 .1 .0; row15-fails = from12 .1 .1 .1 .0 }

@@ -19,13 +19,14 @@ use Rattle.channel.specs.declared.state.Event.the-variants.{PressOn, PressOff, 
 use Rattle.channel.specs.declared.state.Send.{Send}
 use Rattle.set_rules.specs.State.{channelsOf, placeOf, placeIn, hasChannel, channelAt, listenersOf, withChannels}
 use Rattle.set_rules.specs.Entries.{readEntry}
+use Rattle.set_rules.specs.ByKind.{pick}
 use Rattle.set_rules.specs.Refusals.{firstOf, refusalOf}
 use Rattle.set_rules.specs.Records.{Delivery, delivered, recordsOf, spaceOf}
 use Rattle.set_rules.specs.SetRules.{Effect, contextOf, nextsOf, sendsOf, onChannel, byHolder, onTick, accepted}
 use Rattle.set_rules.specs.Feeds.{Outcome, Item, emit, stepOf, stepBy, run}
 use Rattle.set_rules.specs.Promises.{entryOf, ticks, AllAccepted, Ticked}
 use Rattle.set_rules.proofs.Answers.{accepted-after}
-use Rattle.set_rules.proofs.Rows.{rows-fail}
+use Rattle.set_rules.proofs.Rows.{no-row}
 use Rattle.set_rules.specs.declared.state.Desk.{Desk}
 use Rattle.set_rules.specs.declared.state.Size.{Size}
 use Rattle.set_rules.specs.declared.state.LineSet.{LineSet}
@@ -34,7 +35,7 @@ use Rattle.set_rules.specs.declared.state.Entry.{Entry}
 -- ---- an accepted tick
 
 tick-accepted : (s : LineSet) → s .planned ≡ true → refusalOf s (entryOf 6 []) (readEntry (entryOf 6 [])) ≡ 0
-unfolding readEntry refusalOf firstOf
+unfolding pick readEntry refusalOf firstOf
 tick-accepted s p = rw p
 
 record Done (s : LineSet) (o : Outcome) : Type 0 where
@@ -42,7 +43,7 @@ record Done (s : LineSet) (o : Outcome) : Type 0 where
   after-is : o .after ≡ onTick s .after
 
 tick-done : (s : LineSet) (room : ℕ) → s .planned ≡ true → stepOf s (entryOf 6 []) room .refusal ≡ 0 → Done s (stepOf s (entryOf 6 []) room)
-unfolding stepOf accepted readEntry onTick
+unfolding stepOf pick accepted readEntry onTick
 tick-done s room p z = go (leb (spaceOf (onTick s .sent)) room) refl
   where
     go : (u : Bool) → leb (spaceOf (onTick s .sent)) room ≡ u → Done s (stepOf s (entryOf 6 []) room)
@@ -88,14 +89,14 @@ ticking code entitled d n k rest ds = refl
 -- rows 4 and 12 of an accepted press: there is a plan, and the channel is in it
 pub press-planned : (s : LineSet) (e : List ℕ) (x : Entry) → x .kind ≡ 2 → refusalOf s e x ≡ 0 → (s .planned ≡ true) × (hasChannel s (x .channel) ≡ true)
 press-planned s e x k z =
-    let t = rows-fail s e x z in
-    (planned (s .planned) (rw k at (t .0)), has (hasChannel s (x .channel)) (isIn (x .desk) (channelAt s (x .channel) .entitled)) (rw k at (t .1 .1 .1 .1 .1 .1 .1 .1 .0)))
+    let t = no-row s e x z in
+    (planned (s .planned) (rw k at (t .row4-fails)), has (hasChannel s (x .channel)) (isIn (x .desk) (channelAt s (x .channel) .entitled)) (rw k at (t .row12-fails)))
   where
     planned : (t : Bool) → (not t && true) ≡ false → t ≡ true
     planned true h = refl
     planned false h = absurd (false≢true (sym h))
 
-    has : (a b : Bool) → (not (a && b) || false) ≡ false → a ≡ true
+    has : (a b : Bool) → not (a && b) ≡ false → a ≡ true
     has true b h = refl
     has false b h = absurd (false≢true (sym h))
 
@@ -111,7 +112,7 @@ one-place c rest ds n ch h = go (eqb (c .code) ch) h
 let-go : (c : Channel) (rest : List Channel) (ds : List Desk) (n d : ℕ) (e : List ℕ) (x : Entry) → c .holder ≡ Held d → c .arrival ≡ Absent
     → x .kind ≡ 2 → x .on ≡ 0 → eqb (c .code) (x .channel) ≡ true
     → accepted (setWith c rest ds n) e x .after ≡ setWith (quietly (c .code) (c .entitled) d (c .call)) rest ds n
-unfolding accepted onChannel placeOf happens pressOff quietly
+unfolding pick accepted onChannel placeOf happens pressOff quietly
 let-go c rest ds n d e x h a k o m = rw (k, o, m, h, a)
 
 -- the bytes of the ticks, put into words

@@ -9,9 +9,7 @@ use lib.Dec.{eqb, leb, ltb}
 use lib.ListN.{length, drop}
 use borrow.Author.Tests.{leb-true, leb-false, lt-ltb, eqb-true, eqb-false, eq-eqb}
 use Rattle.fields.proofs.DigitLaws.{both}
-use Rattle.telegram.specs.Telegram.{nth, rowOf, valuesOf, readTelegram}
-use Rattle.telegram.specs.declared.message.Reading.{Reading}
-use Rattle.telegram.specs.declared.message.Reading.the-variants.{Telegram, Refused}
+use Rattle.telegram.specs.Telegram.{readTelegram}
 use Rattle.telegram.specs.declared.message.Number.{Number}
 use Rattle.channel.specs.State.{isHeld, holderPlace, heldBy, isPresent}
 use Rattle.line_rules.specs.Rules.{Context, Step, step, happens, capture, captureAt, cut, release, pressOn, pressOff, mobileOn, mobileOff, tick, tickIdle, tickQuiet, tickRelease, handover, isOpen, openedBy, pressCall, mobileCall, mobileRecipients}
@@ -25,16 +23,17 @@ use Rattle.channel.specs.declared.state.Event.the-variants.{Capture, Release, C
 use Rattle.set_rules.specs.State.{newSet, noChannel, channelsOf, placeIn, channelAt}
 use Rattle.set_rules.specs.Entries.{byte, readEntry, measured, bad, payload, payloadOk, sizeOk, telegramIn, planIn}
 use Rattle.set_rules.specs.Plan.{channelsIn, channelCount, channelsPart, setOf}
-use Rattle.set_rules.specs.Refusals.{refusalOf}
-use Rattle.set_rules.specs.SetRules.{Effect, contextOf, nextsOf, onChannel, onTick, onHandover, onPlan, onReading, numberIn, accepted}
+use Rattle.set_rules.specs.Refusals.{Request, tellsTime, tellsState, asksChannel, foreign, askedIn, refusalOf}
+use Rattle.set_rules.specs.SetRules.{Effect, contextOf, nextsOf, onChannel, onTick, onHandover, onPlan, onRequest, numberIn, ways, accepted}
 use Rattle.set_rules.specs.Feeds.{Item, stepBy, after}
 use Rattle.set_rules.specs.Invariant.{Timed, Each}
 use Rattle.set_rules.specs.Promises.{TimersRun}
 use Rattle.set_rules.specs.declared.state.LineSet.{LineSet}
 use Rattle.set_rules.specs.declared.state.Entry.{Entry}
+use Rattle.set_rules.proofs.ByKind.{pick-each}
 use Rattle.set_rules.proofs.Answers.{refused, accepted-after}
 use Rattle.set_rules.proofs.Each.{each-at, each-set, each-take, each-drop, each-append, each-same}
-use Rattle.set_rules.proofs.Rows.{rows-fail}
+use Rattle.set_rules.proofs.Rows.{no-row}
 
 either : (t : Bool) (a b : Step) → (t ≡ true → Timed (a .next)) → (t ≡ false → Timed (b .next)) → Timed (cond t a b .next)
 either true a b p q = p refl
@@ -201,10 +200,6 @@ no-channel = record { quiet-runs = refl; release-runs = refl; pressed-held = nev
 abbrev SetTimed : LineSet → Type 0
 SetTimed s = Each Timed (s .channels)
 
-choose : (t : Bool) (f g : Effect) → SetTimed (f .after) → SetTimed (g .after) → SetTimed (cond t f g .after)
-choose true f g p q = p
-choose false f g p q = q
-
 module _ (s : LineSet) (ok : SetTimed s) where
   planned-timed : Each Timed (channelsOf s)
   planned-timed = each-take Timed (s .size .channels) (s .channels) ok
@@ -233,12 +228,11 @@ module _ (s : LineSet) (ok : SetTimed s) where
   order-fits true d c = tt
   order-fits false d c = tt
 
-  reading-timed : (d : ℕ) (r : Reading) → SetTimed (onReading s d r .after)
-  reading-timed d (Telegram c m) =
-      choose (eqb (rowOf m .id) 550411) _ _ ok
-      (choose (eqb (rowOf m .id) 550421) _ _ ok
-      (on-timed (nth (valuesOf m) 0) d _ (order-fits (eqb (nth (valuesOf m) 3) 1) d (channelAt s (nth (valuesOf m) 0)))))
-  reading-timed d (Refused n c i) = ok
+  request-timed : (d : ℕ) (q : Request) → SetTimed (onRequest s d q .after)
+  request-timed d tellsTime = ok
+  request-timed d (tellsState a) = ok
+  request-timed d (asksChannel ch n o) = on-timed ch d _ (order-fits (eqb o 1) d (channelAt s ch))
+  request-timed d foreign = ok
 
 channels-timed : (n : ℕ) (b : List ℕ) → Each Timed (channelsIn n b)
 unfolding channelsIn
@@ -258,16 +252,13 @@ held-by d (Held h) e = refl
 pub press-rows : (s : LineSet) (e : List ℕ) (x : Entry) → x .kind ≡ 2 → refusalOf s e x ≡ 0
     → (isHeld (channelAt s (x .channel) .holder) ≡ true) × (eqb (x .on) (cond (channelAt s (x .channel) .pressed) 1 0) ≡ false)
 press-rows s e x k z =
-    let t = rows-fail s e x z in
-    (held-by (x .desk) (channelAt s (x .channel) .holder) (yes (heldBy (x .desk) (channelAt s (x .channel) .holder)) (rw k at (t .1 .1 .1 .1 .1 .1 .1 .1 .1 .1 .0))), no _ (rw k at (t .1 .1 .1 .1 .1 .1 .1 .1 .1 .1 .1 .0)))
+    let t = no-row s e x z in
+    let h = channelAt s (x .channel) .holder in
+    (held-by (x .desk) h (yes (heldBy (x .desk) h) (rw k at (t .row14-fails))), rw k at (t .row15-fails))
   where
     yes : (t : Bool) → not t ≡ false → t ≡ true
     yes true h = refl
     yes false h = absurd (false≢true (sym h))
-
-    no : (t : Bool) → ((t || false) || false) ≡ false → t ≡ false
-    no true h = absurd (false≢true (sym h))
-    no false h = refl
 
 press-fits : (on : ℕ) (c : Channel) → on ≤ 1 → isHeld (c .holder) ≡ true → eqb on (cond (c .pressed) 1 0) ≡ false → Fits c (cond (eqb on 1) PressOn PressOff)
 press-fits on c l h e = go (eqb on 1) refl (c .pressed) refl
@@ -290,24 +281,34 @@ on-small e = go (measured e) (eqb (byte e 2) 1) (payloadOk (byte e 3) e) refl
     go true false v h = omega arith
     go false u v h = omega arith
 
-press-if : (t : Bool) (f g : Effect) → (t ≡ true → SetTimed (f .after)) → SetTimed (g .after) → SetTimed (cond t f g .after)
-press-if true f g p q = p refl
-press-if false f g p q = q
-
 accepted-timed : (s : LineSet) → SetTimed s → (e : List ℕ) → refusalOf s e (readEntry e) ≡ 0 → SetTimed (accepted s e (readEntry e) .after)
 unfolding accepted
 accepted-timed s ok e z =
     let x = readEntry e in
-    let pressed : eqb (x .kind) 2 ≡ true → Fits (channelAt s (x .channel)) (cond (eqb (x .on) 1) PressOn PressOff) =
-    λ k. let r = press-rows s e x (eqb-true _ 2 k) z in press-fits (x .on) (channelAt s (x .channel)) (on-small e) (r .0) (r .1) in
-    choose (eqb (x .kind) 1) _ _ (reading-timed s ok (x .desk) (readTelegram (telegramIn e)))
-    (press-if (eqb (x .kind) 2) _ _ (λ k. on-timed s ok (x .channel) _ _ (pressed k))
-    (choose (eqb (x .kind) 3) _ _ (on-timed s ok (x .channel) _ Cut tt)
-    (choose (eqb (x .kind) 4) _ _ (on-timed s ok (x .channel) _ (MobileOn (x .base) (numberIn (x .number))) tt)
-    (choose (eqb (x .kind) 5) _ _ (on-timed s ok (x .channel) _ MobileOff tt)
-    (choose (eqb (x .kind) 6) _ _ (set-tick-timed s ok)
-    (choose (eqb (x .kind) 7) _ _ (plan-timed (planIn e))
-    (set-handover-timed s ok)))))))
+    let pressed : x .kind ≡ 2 → Fits (channelAt s (x .channel)) (cond (eqb (x .on) 1) PressOn PressOff) =
+    λ k. let r = press-rows s e x k z in press-fits (x .on) (channelAt s (x .channel)) (on-small e) (r .0) (r .1) in
+    pick-each (λ f. SetTimed (f .after)) (x .kind) _ (ways s e x) ok (
+      λ k. request-timed s ok (x .desk) (askedIn (readTelegram (telegramIn e))),
+      (
+        λ k. on-timed s ok (x .channel) _ _ (pressed k),
+        (
+          λ k. on-timed s ok (x .channel) _ Cut tt,
+          (
+            λ k. on-timed s ok (x .channel) _ (MobileOn (x .base) (numberIn (x .number))) tt,
+            (
+              λ k. on-timed s ok (x .channel) _ MobileOff tt,
+              (
+                λ k. set-tick-timed s ok,
+                (
+                  λ k. plan-timed (planIn e),
+                  (λ k. set-handover-timed s ok, tt),
+                ),
+              ),
+            ),
+          ),
+        ),
+      ),
+    )
 
 step-timed : (s : LineSet) (i : Item) → SetTimed s → SetTimed (stepBy s i .after)
 step-timed s i ok = go (eqb (stepBy s i .refusal) 0) refl

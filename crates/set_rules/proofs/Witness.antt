@@ -1,7 +1,7 @@
 -- The isolation speaks of something: two different feeds that are related, in which desk 1 receives records.
 -- Assumes nothing.
 use Prim.Native.Nat.{ℕ}
-use mathlib.Core.List.{List, []}
+use mathlib.Core.List.{List, [], _∷_}
 use mathlib.Core.Path.{_≡_, refl, ap}
 use native.Mathlib.Omega.{arith}
 use lib.Count.{onesIn}
@@ -13,17 +13,18 @@ use Rattle.telegram.specs.Promises.{spelled}
 use Rattle.channel.specs.State.{isIn}
 use Rattle.line_rules.specs.Rules.{capture, mobileOn, happens}
 use Rattle.set_rules.specs.State.{placeOf, runningFrom}
+use Rattle.set_rules.specs.ByKind.{pick}
 use Rattle.set_rules.specs.Entries.{readEntry}
 use Rattle.set_rules.specs.Plan.{desksOk, desksIn, hasNumber, distinct, channelsOk, channelsIn, planOk, setOf}
 use Rattle.set_rules.specs.Refusals.{firstOf, refusalOf}
 use Rattle.set_rules.specs.Records.{delivered, toEach, recordsOf, spaceOf}
 use Rattle.set_rules.specs.SetRules.{onChannel, accepted}
 use Rattle.set_rules.specs.Feeds.{Item, stepOf, ofDesk, views, Seen}
-use Rattle.set_rules.specs.Promises.{Speaks, same, numbers, none, more, item, Exchanged}
+use Rattle.set_rules.specs.Promises.{entryOf, Speaks, same, talks, none, more, item, Renumbered}
 
-exchanged : Exchanged (digitsOf 8 990007) (digitsOf 8 990008)
+renumbered : Renumbered (entryOf 4 (7 ∷ 3 ∷ digitsOf 8 990007)) (entryOf 4 (7 ∷ 3 ∷ digitsOf 8 990008))
 unfolding digitsOf allDigits valueFrom
-exchanged = record { eight = refl; eight′ = refl; callers = refl }
+renumbered = record { kind-is = refl; bytes = record { long = refl; front = refl; back = refl }; callers = λ z. refl }
 
 other : _≡_ {A = ℕ} 0 1 → ⊥
 other p = omega arith
@@ -37,7 +38,7 @@ learnt : List Seen → ℕ
 learnt vs = getD (getD vs 6 (record { refusal = 0; count = 0; records = [] }) .records) 43 0
 
 pub witness : Speaks
-unfolding last learnt spelled onesIn digitsOf allDigits valueFrom bodyOk valuesIn bytesOf headerOk readTelegram telegramOf isIn capture mobileOn happens placeOf runningFrom readEntry desksOk desksIn hasNumber distinct channelsOk channelsIn planOk setOf firstOf refusalOf delivered toEach recordsOf spaceOf onChannel accepted stepOf ofDesk views
+unfolding last learnt spelled onesIn digitsOf allDigits valueFrom bodyOk valuesIn bytesOf headerOk readTelegram telegramOf isIn capture mobileOn happens placeOf runningFrom readEntry desksOk desksIn hasNumber distinct channelsOk channelsIn planOk setOf firstOf refusalOf delivered toEach recordsOf spaceOf onChannel pick accepted stepOf ofDesk views
 witness = record {
   related =
       more (same refl) refl
@@ -46,7 +47,7 @@ witness = record {
       (more (same refl) refl
       (more (same refl) refl
       (more (same refl) refl
-      (more (numbers 7 3 (digitsOf 8 990007) (digitsOf 8 990008) refl refl exchanged other) refl
+      (more (talks renumbered other) refl
       none))))));
   differ = λ p. let q : _≡_ {A = ℕ} 55 56 = ap last p in omega arith;
   receives = refl;

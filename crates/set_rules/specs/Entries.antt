@@ -1,12 +1,13 @@
 -- 01, Entries and records: what an entry's bytes ask for, or refusal 1, 2 or 3.
 use Prim.Native.Nat.{ℕ, _+_, _*_}
 use mathlib.Core.List.{List, [], _∷_, _++_}
-use mathlib.Core.Bool.{Bool, true, false, _&&_, _||_, cond}
+use mathlib.Core.Bool.{Bool, true, false, _&&_, cond}
 use lib.Dec.{eqb, leb}
 use lib.ListN.{length, take, drop, getD}
 use Rattle.fields.specs.Digits.{digitsIn}
 use Rattle.fields.specs.declared.digits.Digits.{Digits}
 use Rattle.fields.specs.declared.digits.Digits.the-variants.{Malformed}
+use Rattle.set_rules.specs.ByKind.{pick}
 use Rattle.set_rules.specs.declared.state.Entry.{Entry}
 
 -- the byte at a place
@@ -29,6 +30,10 @@ bad n = record { refusal = n; kind = 0; desk = 0; channel = 0; on = 0; base = 0;
 abbrev pub asks : ℕ → ℕ → ℕ → ℕ → ℕ → Digits → Entry
 asks k d ch on b n = record { refusal = 0; kind = k; desk = d; channel = ch; on = on; base = b; number = n }
 
+-- the number in a mobile on: eight bytes behind channel and base
+abbrev pub mobileIn : List ℕ → Digits
+mobileIn e = digitsIn (take 8 (drop 6 e))
+
 -- The kinds: "1 telegram: desk, telegram bytes; 2 press: desk, channel, on; 3 cut: desk, channel; 4 mobile on: channel, base 0
 -- to 29, 8-byte number; 5 mobile off: channel; 6 tick: none; 7 plan; 8 handover: none"
 abbrev pub payload : ℕ → List ℕ → Entry
@@ -36,21 +41,25 @@ payload k e =
     cond (eqb k 1) (asks 1 (byte e 4) 0 0 0 Malformed)
     (cond (eqb k 2) (asks 2 (byte e 4) (byte e 5) (byte e 6) 0 Malformed)
     (cond (eqb k 3) (asks 3 (byte e 4) (byte e 5) 0 0 Malformed)
-    (cond (eqb k 4) (asks 4 0 (byte e 4) 0 (byte e 5) (digitsIn (take 8 (drop 6 e))))
+    (cond (eqb k 4) (asks 4 0 (byte e 4) 0 (byte e 5) (mobileIn e))
     (cond (eqb k 5) (asks 5 0 (byte e 4) 0 0 Malformed)
     (asks k 0 0 0 0 Malformed)))))
 
--- "payload size wrong (kind 1 needs a desk byte; kind 7 is judged at 6)"; the four bytes before the payload count here
+-- "payload size wrong (kind 1 needs a desk byte; kind 7 is judged at 6)", by kind; the four bytes before the payload count here
+abbrev pub sizes : List (ℕ × (ℕ → Bool))
+sizes =
+    (1, λ n. leb 5 n)
+    ∷ (2, λ n. eqb n 7)
+    ∷ (3, λ n. eqb n 6)
+    ∷ (4, λ n. eqb n 14)
+    ∷ (5, λ n. eqb n 5)
+    ∷ (6, λ n. eqb n 4)
+    ∷ (7, λ n. true)
+    ∷ (8, λ n. eqb n 4)
+    ∷ []
+
 abbrev pub sizeOk : ℕ → ℕ → Bool
-sizeOk k n =
-    (eqb k 1 && leb 5 n)
-    || (eqb k 2 && eqb n 7)
-    || (eqb k 3 && eqb n 6)
-    || (eqb k 4 && eqb n 14)
-    || (eqb k 5 && eqb n 5)
-    || (eqb k 6 && eqb n 4)
-    || eqb k 7
-    || (eqb k 8 && eqb n 4)
+sizeOk k n = pick k (λ n. false) sizes n
 
 -- 3: "kind not 1 to 8; payload size wrong ..; on above 1; base above 29"
 abbrev pub payloadOk : ℕ → List ℕ → Bool

@@ -1,10 +1,10 @@
 -- What is promised of the set, as statements about the definitions. `proofs/` proves each under the name given with it.
-use Prim.Native.Nat.{ℕ}
+use Prim.Native.Nat.{ℕ, _+_}
 use mathlib.Core.List.{List, [], _∷_, _++_, map}
 use mathlib.Core.Bool.{true, false}
 use mathlib.Core.Path.{_≡_}
-use lib.ListN.{length, replicate, getD}
-use Rattle.fields.specs.Digits.{digitsOf, digitsIn}
+use lib.ListN.{length, take, drop, replicate, getD}
+use Rattle.fields.specs.Digits.{digitsOf}
 use Rattle.telegram.specs.Telegram.{readTelegram, telegramOf}
 use Rattle.telegram.specs.Promises.{dv, Marked as ReaderMarked}
 use Rattle.telegram.specs.declared.message.Message.{Message}
@@ -16,7 +16,7 @@ use Rattle.channel.specs.declared.state.Channel.{Channel}
 use Rattle.channel.specs.declared.state.Holder.{Holder}
 use Rattle.channel.specs.declared.state.Holder.the-variants.{Nobody, Held}
 use Rattle.set_rules.specs.State.{newSet, noDesk, channelAt}
-use Rattle.set_rules.specs.Entries.{readEntry}
+use Rattle.set_rules.specs.Entries.{byte, mobileIn, readEntry}
 use Rattle.set_rules.specs.Refusals.{isCaller}
 use Rattle.set_rules.specs.Records.{measuredBytes, Delivery, delivered, recordsOf}
 use Rattle.set_rules.specs.SetRules.{contextOf, accepted}
@@ -48,40 +48,40 @@ entryOf kind payload = measuredBytes (1 ∷ kind ∷ payload)
 
 -- ---- 3. Demand 3, its first part (`Isolation.isolated`)
 
--- the bytes of a mobile on: channel, base, number
-abbrev pub mobileEntry : ℕ → ℕ → List ℕ → List ℕ
-mobileEntry ch b n = entryOf 4 (ch ∷ b ∷ n)
+-- two strings of bytes, alike but for n bytes from a place on
+pub record AlikeBut (at n : ℕ) (e e′ : List ℕ) : Type 0 where
+  pub long : length e ≡ length e′
+  pub front : take at e ≡ take at e′
+  pub back : drop (at + n) e ≡ drop (at + n) e′
 
--- two numbers in a mobile on, eight bytes each, of which one can be a mobile's exactly when the other can: what is "not 8 digits
--- or the none-number" is refused with 13, and the refusals are for B to see
-pub record Exchanged (n n′ : List ℕ) : Type 0 where
-  pub eight : length n ≡ 8
-  pub eight′ : length n′ ≡ 8
-  pub callers : isCaller (digitsIn n) ≡ isCaller (digitsIn n′)
+-- "mobile ons, accepted or refused, alike but for the number". Of two that read, one number can be a mobile's exactly when the
+-- other can: what is "not 8 digits or the none-number" is refused with 13, and the refusals are for B to see.
+pub record Renumbered (e e′ : List ℕ) : Type 0 where
+  pub kind-is : byte e 3 ≡ 4
+  pub bytes : AlikeBut 6 8 e e′
+  pub callers : readEntry e .refusal ≡ 0 → isCaller (mobileIn e) ≡ isCaller (mobileIn e′)
 
 -- "a desk other than B holds"
 abbrev pub OtherHolds : ℕ → Holder → Type 0
 OtherHolds B Nobody = ⊥
 OtherHolds B (Held d) = d ≡ B → ⊥
 
--- Two entries before a set that may stand for each other: the same bytes, or "mobile ons, accepted or refused, alike but for
--- the number, whose channel a desk other than B holds".
-pub data Alike (B : ℕ) (s : LineSet) (e e′ : List ℕ) : Type 0 where
-  same : e ≡ e′ → Alike B s e e′
-  numbers : (ch b : ℕ) (n n′ : List ℕ) → e ≡ mobileEntry ch b n → e′ ≡ mobileEntry ch b n′ → Exchanged n n′
-      → OtherHolds B (channelAt s ch .holder) → Alike B s e e′
+-- Two entries that may stand for each other before a set: the same bytes, or mobile ons "whose channel a desk other than B holds".
+pub data MayDiffer (B : ℕ) (s : LineSet) (e e′ : List ℕ) : Type 0 where
+  same : e ≡ e′ → MayDiffer B s e e′
+  talks : Renumbered e e′ → OtherHolds B (channelAt s (byte e 4) .holder) → MayDiffer B s e e′
 
--- Two feeds from a set that differ only so, with equal buffer lengths. "Who holds is what the line rules and refusals give for
--- the entries before", in the first feed.
-pub data Related (B : ℕ) : LineSet → List Item → List Item → Type 0 where
-  none : {s : LineSet} → Related B s [] []
-  more : {s : LineSet} {i i′ : Item} {f f′ : List Item} → Alike B s (i .entry) (i′ .entry) → i .room ≡ i′ .room
-      → Related B (stepBy s i .after) f f′ → Related B s (i ∷ f) (i′ ∷ f′)
+-- Two feeds, each from a set, that differ only so, with equal buffer lengths. "Who holds is what the line rules and refusals give
+-- for the entries before", in the first feed.
+pub data Related (B : ℕ) : LineSet → LineSet → List Item → List Item → Type 0 where
+  none : {s s′ : LineSet} → Related B s s′ [] []
+  more : {s s′ : LineSet} {i i′ : Item} {f f′ : List Item} → MayDiffer B s (i .entry) (i′ .entry) → i .room ≡ i′ .room
+      → Related B (stepBy s i .after) (stepBy s′ i′ .after) f f′ → Related B s s′ (i ∷ f) (i′ ∷ f′)
 
 -- For any desk B and two feeds from a new set that differ only in numbers B may not learn, B gets the same records, refusals
 -- and counts.
 abbrev pub Isolated : Type 0
-Isolated = (B : ℕ) (f f′ : List Item) → Related B newSet f f′ → views B newSet f ≡ views B newSet f′
+Isolated = (B : ℕ) (f f′ : List Item) → Related B newSet newSet f f′ → views B newSet f ≡ views B newSet f′
 
 -- ---- 6. The cases marked (p) in 01 that concern entries (`Marked.entries-hold`), and its listing (`Marked.listed`)
 
@@ -174,11 +174,11 @@ sharedFeed number =
     ∷ item (entryOf 1 (0 ∷ dv ((4, 18) ∷ (4, 12) ∷ (6, 550421) ∷ (1, 0) ∷ (1, 1) ∷ [])))
     ∷ item (entryOf 1 (1 ∷ dv ((4, 18) ∷ (4, 13) ∷ (6, 550421) ∷ (1, 0) ∷ (1, 1) ∷ [])))
     ∷ item (captureEntry 7)
-    ∷ item (mobileEntry 7 3 (digitsOf 8 number))
+    ∷ item (entryOf 4 (7 ∷ 3 ∷ digitsOf 8 number))
     ∷ []
 
 pub record Speaks : Type 0 where
-  pub related : Related 1 newSet (sharedFeed 990007) (sharedFeed 990008)
+  pub related : Related 1 newSet newSet (sharedFeed 990007) (sharedFeed 990008)
   pub differ : sharedFeed 990007 ≡ sharedFeed 990008 → ⊥
   pub receives : map (λ (v : Seen). length (v .records)) (views 1 newSet (sharedFeed 990007)) ≡ 21 ∷ 0 ∷ 21 ∷ 0 ∷ 0 ∷ 34 ∷ 0 ∷ []
   pub learns : views 0 newSet (sharedFeed 990007) ≡ views 0 newSet (sharedFeed 990008) → ⊥

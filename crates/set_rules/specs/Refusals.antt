@@ -5,7 +5,10 @@ use mathlib.Core.Bool.{Bool, true, false, _&&_, _||_, not, cond}
 use lib.Dec.{eqb}
 use Rattle.fields.specs.declared.digits.Digits.{Digits}
 use Rattle.fields.specs.declared.digits.Digits.the-variants.{Value, Malformed}
-use Rattle.telegram.specs.Telegram.{readTelegram, rowOf, valuesOf, nth}
+use Rattle.telegram.specs.Telegram.{readTelegram, rowOf}
+use Rattle.telegram.specs.declared.message.Number.{Number}
+use Rattle.telegram.specs.declared.message.Message.{Message}
+use Rattle.telegram.specs.declared.message.Message.the-variants.{TimeNotice, OperationAnswer, TimeRequest, BaseArrival, OperationRequest, Call, CallerNotice, CaptureRequest, CaptureReply, CaptureState}
 use Rattle.telegram.specs.declared.message.Reading.{Reading}
 use Rattle.telegram.specs.declared.message.Reading.the-variants.{Telegram as Read, Refused}
 use Rattle.channel.specs.State.{isIn, heldBy, isPresent}
@@ -44,22 +47,56 @@ abbrev pub bodyReads : Reading → Bool
 bodyReads (Read c m) = true
 bodyReads (Refused n c i) = false
 
+-- what a desk asks by telegram: a case for each telegram that a desk sends, with what the set goes by
+pub data Request : Type 0 where
+  -- 550411: the time, which the set does not keep
+  tellsTime : Request
+  -- 550421: its state
+  tellsState : ℕ → Request
+  -- 550600: channel, number and order
+  asksChannel : ℕ → Number → ℕ → Request
+  -- a telegram that no desk sends
+  foreign : Request
+
+abbrev pub askedBy : Message → Request
+askedBy (TimeNotice m) = tellsTime
+askedBy (OperationAnswer m) = tellsState (m .state)
+askedBy TimeRequest = foreign
+askedBy (BaseArrival m) = foreign
+askedBy OperationRequest = foreign
+askedBy (Call m) = foreign
+askedBy (CallerNotice m) = foreign
+askedBy (CaptureRequest m) = asksChannel (m .channel) (m .number) (m .order)
+askedBy (CaptureReply m) = foreign
+askedBy (CaptureState m) = foreign
+
+abbrev pub askedIn : Reading → Request
+askedIn (Read c m) = askedBy m
+askedIn (Refused n c i) = foreign
+
 -- "In phase 1 only 550411 is taken", "In phase 2 only 550421", "550600, press and cut need" phase 3
-abbrev pub phaseOf : ℕ → ℕ
-phaseOf i = cond (eqb i 550411) 1 (cond (eqb i 550421) 2 3)
-
-abbrev pub phaseFor : Reading → ℕ
-phaseFor (Read c m) = phaseOf (rowOf m .id)
-phaseFor (Refused n c i) = 3
-
--- the channel and the number of a capture request: the first and the third number of its body
-abbrev pub requestOf : (ℕ → ℕ → Bool) → Reading → Bool
-requestOf p (Read c m) = eqb (rowOf m .id) 550600 && p (nth (valuesOf m) 0) (nth (valuesOf m) 2)
-requestOf p (Refused n c i) = false
+abbrev pub phaseOf : Request → ℕ
+phaseOf tellsTime = 1
+phaseOf (tellsState a) = 2
+phaseOf (asksChannel ch n o) = 3
+phaseOf foreign = 3
 
 -- "channel not in the plan, or desk not entitled"
 abbrev pub mayUse : LineSet → ℕ → ℕ → Bool
 mayUse s d ch = hasChannel s ch && isIn d (channelAt s ch .entitled)
+
+abbrev pub mayAsk : LineSet → ℕ → Request → Bool
+mayAsk s d tellsTime = true
+mayAsk s d (tellsState a) = true
+mayAsk s d (asksChannel ch n o) = mayUse s d ch
+mayAsk s d foreign = true
+
+-- "550600 number not the desk's own"
+abbrev pub isOwn : ℕ → Request → Bool
+isOwn own tellsTime = true
+isOwn own (tellsState a) = true
+isOwn own (asksChannel ch n o) = eqb (n .digits) own
+isOwn own foreign = true
 
 -- a mobile's number: "not 8 digits or the none-number"
 abbrev pub isCaller : Digits → Bool
@@ -98,20 +135,22 @@ row10 s e r x = isKind 1 x && not (bodyReads r)
 
 -- "the desk's link is not in the phase needed"
 abbrev pub row11 : Test
-row11 s e r x = fromDesk x && not (eqb (deskAt s (x .desk) .link .phase) (cond (isKind 1 x) (phaseFor r) 3))
+row11 s e r x = fromDesk x && not (eqb (deskAt s (x .desk) .link .phase) (cond (isKind 1 x) (phaseOf (askedIn r)) 3))
 
 -- "channel not in the plan, or desk not entitled"
 abbrev pub row12 : Test
 row12 s e r x =
-    (isKind 1 x && requestOf (λ ch n. not (mayUse s (x .desk) ch)) r)
-    || ((isKind 2 x || isKind 3 x) && not (mayUse s (x .desk) (x .channel)))
-    || ((isKind 4 x || isKind 5 x) && not (hasChannel s (x .channel)))
+    cond (isKind 1 x) (not (mayAsk s (x .desk) (askedIn r)))
+    (cond (isKind 2 x || isKind 3 x) (not (mayUse s (x .desk) (x .channel)))
+    (cond (isKind 4 x || isKind 5 x) (not (hasChannel s (x .channel)))
+    false))
 
 -- "550600 number not the desk's own; mobile's number not 8 digits or the none-number"
 abbrev pub row13 : Test
 row13 s e r x =
-    (isKind 1 x && requestOf (λ ch n. not (eqb n (deskAt s (x .desk) .number .digits))) r)
-    || (isKind 4 x && not (isCaller (x .number)))
+    cond (isKind 1 x) (not (isOwn (deskAt s (x .desk) .number .digits) (askedIn r)))
+    (cond (isKind 4 x) (not (isCaller (x .number)))
+    false)
 
 -- "press or cut by a desk that doesn't hold the channel"
 abbrev pub row14 : Test
@@ -120,9 +159,10 @@ row14 s e r x = (isKind 2 x || isKind 3 x) && not (heldBy (x .desk) (channelAt s
 -- "press on while on, off while off; mobile the same"
 abbrev pub row15 : Test
 row15 s e r x =
-    (isKind 2 x && eqb (x .on) (cond (channelAt s (x .channel) .pressed) 1 0))
-    || (isKind 4 x && isPresent (channelAt s (x .channel) .arrival))
-    || (isKind 5 x && not (isPresent (channelAt s (x .channel) .arrival)))
+    cond (isKind 2 x) (eqb (x .on) (cond (channelAt s (x .channel) .pressed) 1 0))
+    (cond (isKind 4 x) (isPresent (channelAt s (x .channel) .arrival))
+    (cond (isKind 5 x) (not (isPresent (channelAt s (x .channel) .arrival)))
+    false))
 
 abbrev pub table : List (ℕ × Test)
 table =

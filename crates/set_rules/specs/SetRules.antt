@@ -6,12 +6,10 @@ use lib.Dec.{eqb}
 use lib.ListN.{drop, set}
 use Rattle.fields.specs.declared.digits.Digits.{Digits}
 use Rattle.fields.specs.declared.digits.Digits.the-variants.{Value, Malformed}
-use Rattle.telegram.specs.Telegram.{num, nth, readTelegram, rowOf, valuesOf}
+use Rattle.telegram.specs.Telegram.{num, readTelegram}
 use Rattle.telegram.specs.declared.message.Number.{Number}
 use Rattle.telegram.specs.declared.message.Message.{Message}
 use Rattle.telegram.specs.declared.message.Message.the-variants.{TimeRequest, OperationRequest}
-use Rattle.telegram.specs.declared.message.Reading.{Reading}
-use Rattle.telegram.specs.declared.message.Reading.the-variants.{Telegram, Refused}
 use Rattle.channel.specs.State.{only, firstDesks, holderPlace}
 use Rattle.line_rules.specs.Rules.{Context, Step, happens}
 use Rattle.line_rules.specs.Notices.{telegram}
@@ -20,7 +18,9 @@ use Rattle.channel.specs.declared.state.Event.{Event}
 use Rattle.channel.specs.declared.state.Event.the-variants.{Capture, Release, Cut, PressOn, PressOff, MobileOn, MobileOff, Tick, Handover}
 use Rattle.set_rules.specs.State.{newSet, deskAt, channelsOf, placeIn, channelAt, listenersOf, withChannels, timeTold, answered, withLink}
 use Rattle.set_rules.specs.Entries.{telegramIn, planIn}
+use Rattle.set_rules.specs.ByKind.{pick}
 use Rattle.set_rules.specs.Plan.{setOf}
+use Rattle.set_rules.specs.Refusals.{Request, tellsTime, tellsState, asksChannel, foreign, askedIn}
 use Rattle.set_rules.specs.Records.{Delivery, delivered}
 use Rattle.set_rules.specs.declared.state.Desk.{Desk}
 use Rattle.set_rules.specs.declared.state.LineSet.{LineSet}
@@ -92,29 +92,29 @@ onHandover s = effect s newSet (sendsOf s Handover (channelsOf s))
 abbrev pub onPlan : List ℕ → Effect
 onPlan p = effect (setOf p) (setOf p) (telegramTo (firstDesks (setOf p .size .desks)) TimeRequest)
 
--- a desk's telegram, by its identifier; a 550600 has the channel, then its order, 1 to capture and 0 to release
-abbrev pub onMessage : LineSet → ℕ → ℕ → List ℕ → Effect
-onMessage s d id vs =
-    cond (eqb id 550411) (timeTaken s d)
-    (cond (eqb id 550421) (answerTaken s d (nth vs 1))
-    (onChannel s (nth vs 0) d (cond (eqb (nth vs 3) 1) (Capture d) (Release d))))
-
-abbrev pub onReading : LineSet → ℕ → Reading → Effect
-onReading s d (Telegram c m) = onMessage s d (rowOf m .id) (valuesOf m)
-onReading s d (Refused n c i) = effect s s []
+-- what a desk's telegram does; a 550600 has order 1 to capture and 0 to release
+abbrev pub onRequest : LineSet → ℕ → Request → Effect
+onRequest s d tellsTime = timeTaken s d
+onRequest s d (tellsState a) = answerTaken s d a
+onRequest s d (asksChannel ch n o) = onChannel s ch d (cond (eqb o 1) (Capture d) (Release d))
+onRequest s d foreign = effect s s []
 
 abbrev pub numberIn : Digits → Number
 numberIn (Value v) = num v
 numberIn Malformed = num 0
 
 -- what an accepted entry does, by its kind
+abbrev pub ways : LineSet → List ℕ → Entry → List (ℕ × Effect)
+ways s e x =
+    (1, onRequest s (x .desk) (askedIn (readTelegram (telegramIn e))))
+    ∷ (2, byHolder s (x .channel) (cond (eqb (x .on) 1) PressOn PressOff))
+    ∷ (3, byHolder s (x .channel) Cut)
+    ∷ (4, byHolder s (x .channel) (MobileOn (x .base) (numberIn (x .number))))
+    ∷ (5, byHolder s (x .channel) MobileOff)
+    ∷ (6, onTick s)
+    ∷ (7, onPlan (planIn e))
+    ∷ (8, onHandover s)
+    ∷ []
+
 unfoldable pub accepted : LineSet → List ℕ → Entry → Effect
-accepted s e x =
-    cond (eqb (x .kind) 1) (onReading s (x .desk) (readTelegram (telegramIn e)))
-    (cond (eqb (x .kind) 2) (byHolder s (x .channel) (cond (eqb (x .on) 1) PressOn PressOff))
-    (cond (eqb (x .kind) 3) (byHolder s (x .channel) Cut)
-    (cond (eqb (x .kind) 4) (byHolder s (x .channel) (MobileOn (x .base) (numberIn (x .number))))
-    (cond (eqb (x .kind) 5) (byHolder s (x .channel) MobileOff)
-    (cond (eqb (x .kind) 6) (onTick s)
-    (cond (eqb (x .kind) 7) (onPlan (planIn e))
-    (onHandover s)))))))
+accepted s e x = pick (x .kind) (effect s s []) (ways s e x)

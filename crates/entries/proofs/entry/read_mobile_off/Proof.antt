@@ -1,17 +1,18 @@
 -- `entries::entry::read_mobile_off` meets its contract: the size is tested, and the payload is a channel.
 -- Assumes nothing.
 use borrow.Author.Tests.{eq-eqb, ne-eqb}
+use Rattle.set_rules.specs.ByKind.{pick}
 use Rattle.entries.specs.Payloads.{payloadIn}
 use borrow.Author.Needs.{needs}
 use Rattle.entries.proofs.entry.read_mobile_off.Statement.{statement}
 use Rattle.entries.proofs.entry.read_mobile_off.Tie as tie
 
 returns : tie.Need-returns
-unfolding payloadIn
+unfolding pick payloadIn
 returns c = simp (ne-eqb _ _ (c .before .if1 .taken)) (c .refused .ensures)
 
 returns-2 : tie.Need-returns-2
-unfolding payloadIn
+unfolding pick payloadIn
 returns-2 c = simp (eq-eqb _ _ (c .before .before .if1 .left)) (c .asks .ensures)
 
 pub read-mobile-off-spec : {M : Type 1} → statement M

@@ -1,21 +1,22 @@
 -- `entries::entry::read_mobile_on` meets its contract: the size, then the base, are tested.
 -- Assumes nothing.
 use borrow.Author.Tests.{eq-eqb, ne-eqb, le-leb, lt-leb}
+use Rattle.set_rules.specs.ByKind.{pick}
 use Rattle.entries.specs.Payloads.{payloadIn}
 use borrow.Author.Needs.{needs}
 use Rattle.entries.proofs.entry.read_mobile_on.Statement.{statement}
 use Rattle.entries.proofs.entry.read_mobile_on.Tie as tie
 
 returns : tie.Need-returns
-unfolding payloadIn
+unfolding pick payloadIn
 returns c = simp (ne-eqb _ _ (c .before .if1 .taken)) (c .refused .ensures)
 
 returns-2 : tie.Need-returns-2
-unfolding payloadIn
+unfolding pick payloadIn
 returns-2 c = simp (eq-eqb _ _ (c .before .before .before .before .if1 .left), lt-leb _ _ (c .before .if2 .taken)) (c .refused2 .ensures)
 
 returns-3 : tie.Need-returns-3
-unfolding payloadIn
+unfolding pick payloadIn
 returns-3 c = simp (eq-eqb _ _ (c .before .before .before .before .before .if1 .left), le-leb _ _ (c .before .before .if2 .left), c .read-digits .ensures)
 
 pub read-mobile-on-spec : {M : Type 1} → statement M

@@ -2,6 +2,7 @@
 -- Assumes nothing.
 use mathlib.Core.Bool.{or-false, and-true}
 use borrow.Author.Tests.{ne-eqb}
+use Rattle.set_rules.specs.ByKind.{pick}
 use Rattle.entries.specs.Payloads.{payloadIn, bareIn}
 use borrow.Author.Needs.{needs}
 use Rattle.entries.proofs.entry.read_payload.Statement.{statement}
@@ -23,19 +24,19 @@ returns-5 : tie.Need-returns-5
 returns-5 c = rw (c .before .match .keys5) (c .read-mobile-off .ensures)
 
 returns-6 : tie.Need-returns-6
-unfolding payloadIn bareIn
+unfolding pick payloadIn bareIn
 returns-6 c = rw (c .before .match .keys6) (simp (or-false, and-true) (c .read-bare .ensures))
 
 returns-7 : tie.Need-returns-7
-unfolding payloadIn
+unfolding pick payloadIn
 returns-7 c = rw (c .before .match .keys7) (c .asks .ensures)
 
 returns-8 : tie.Need-returns-8
-unfolding payloadIn bareIn
+unfolding pick payloadIn bareIn
 returns-8 c = rw (c .before .match .keys8) (simp and-true (c .read-bare2 .ensures))
 
 returns-9 : tie.Need-returns-9
-unfolding payloadIn
+unfolding pick payloadIn
 returns-9 c =
     let r = c .before .match .rest in
     simp (ne-eqb _ _ (r .0 .0 .0 .0 .0 .0 .0 .1), ne-eqb _ _ (r .0 .0 .0 .0 .0 .0 .1), ne-eqb _ _ (r .0 .0 .0 .0 .0 .1), ne-eqb _ _ (r .0 .0 .0 .0 .1), ne-eqb _ _ (r .0 .0 .0 .1), ne-eqb _ _ (r .0 .0 .1), ne-eqb _ _ (r .0 .1), ne-eqb _ _ (r .1)) (c .refused .ensures)
