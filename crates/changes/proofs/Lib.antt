@@ -1,3 +1,4 @@
 pub mod Places
 pub mod Heard
 pub mod Changing
+pub mod Rules

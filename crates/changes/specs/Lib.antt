@@ -1,3 +1,3 @@
-pub mod Requests
+pub mod Asking
 pub mod Judging
 pub mod Changes

@@ -1,7 +1,7 @@
 // What an entry about one channel or one desk changes: the desks and the channel, as they are after it.
 use super::judge;
 use super::lookup;
-use super::request::Request;
+use super::request::Asked;
 use channel::Channel;
 use channel::Event;
 use channel::Moved;
@@ -9,15 +9,17 @@ use fields::Digits;
 use records::Body;
 use set_rules::Desk;
 use set_rules::Entry;
+use set_rules::Request;
 use telegram::Number;
+ghost use Prim.Native.Nat.{ℕ};
 ghost use mathlib.Core.Path.{_≡_};
-ghost use mathlib.Core.Bool.{cond};
+ghost use mathlib.Core.Bool.{Bool, true, cond};
 ghost use lib.Dec.{eqb};
 ghost use lib.ListN.{length};
-ghost use Rattle.line_rules.specs.Rules.{happens};
-ghost use Rattle.lines.specs.Scripts.{heard};
-ghost use Rattle.set_rules.specs.SetRules.{numberIn};
-ghost use Rattle.changes.specs.Changes.{Makes, contextIn, eventOf, unchanged, emitIn, onOne, timeIn, answerIn, lineIn, requestOn, changeIn};
+ghost use Rattle.lines.specs.Scripts.{Follows};
+ghost use Rattle.set_rules.specs.SetRules.{movedBy, numberIn, timeTaken, answerTaken, onChannel};
+ghost use Rattle.set_rules.specs.Feeds.{emit};
+ghost use Rattle.changes.specs.Changes.{unchanged, eventOf, InSets, AnswersTo};
 
 // The channel and the desks after an entry, the bytes written, and the refusal number. A refusal changes nothing.
 pub struct Change {
@@ -40,7 +42,7 @@ fn refuse(desks: [Desk; 4], channel: Channel, refusal: u8) -> Change
 
 // An event on a channel. Desk d holds the channel or asks for it.
 pub fn moved(desks: [Desk; 4], n: u8, d: u8, event: Event, c: Channel) -> Moved
-    ensures { λ r. ⌜ (r .next ≡ happens event (contextIn desks n c d) c .next) × (heard (r .sends) ≡ heard (happens event (contextIn desks n c d) c .sends)) ⌝ }
+    ensures { λ r. ⌜ Follows r (movedBy desks n d event c) ⌝ }
 {
     let listeners = lookup::listeners(desks, n, c.entitled);
     let desk = set_rules::desk_at(desks, d);
@@ -50,7 +52,7 @@ pub fn moved(desks: [Desk; 4], n: u8, d: u8, event: Event, c: Channel) -> Moved
 
 // An event on the channel, and its records if there is room.
 fn on_channel(desks: [Desk; 4], n: u8, d: u8, event: Event, c: Channel, buffer: &mut [u8]) -> Change
-    ensures { λ r. ⌜ Makes (emitIn desks c (onOne desks n d event c) (length (now (buffer .entry)))) r (now (buffer .entry)) (now (buffer .exit)) ⌝ }
+    ensures { λ r. ⌜ ((ch : ℕ) → InSets desks n ch true c (λ s. emit s (onChannel s ch d event)) r (now (buffer .entry)) (now (buffer .exit))) ⌝ }
 {
     let m = moved(desks, n, d, event, c);
     let sends = m.sends;
@@ -105,10 +107,10 @@ fn event_of(x: Entry) -> Event
 
 // A press, a cut, a mobile on or off.
 fn line(desks: [Desk; 4], n: u8, x: Entry, found: bool, c: Channel, buffer: &mut [u8]) -> Change
-    ensures { λ r. ⌜ Makes (lineIn desks n x found c (length (now (buffer .entry)))) r (now (buffer .entry)) (now (buffer .exit)) ⌝ }
+    ensures { λ r. ⌜ AnswersTo desks n x Asked.OnLine found c r (now (buffer .entry)) (now (buffer .exit)) ⌝ }
 {
     let desk = set_rules::desk_at(desks, x.desk);
-    let refusal = judge::judge_line(x, x.desk < n, desk.link.phase, found, c);
+    let refusal = judge::judge_line(x, desk.link.phase, found, c);
     if refusal != 0 {
         return refuse(desks, c, refusal);
     }
@@ -120,7 +122,7 @@ fn line(desks: [Desk; 4], n: u8, x: Entry, found: bool, c: Channel, buffer: &mut
 
 // 550411: the operation request goes out, and the link's next phase is the second.
 fn time_told(desks: [Desk; 4], d: u8, c: Channel, buffer: &mut [u8]) -> Change
-    ensures { λ r. ⌜ Makes (emitIn desks c (timeIn desks d c) (length (now (buffer .entry)))) r (now (buffer .entry)) (now (buffer .exit)) ⌝ }
+    ensures { λ r. ⌜ ((n ch : ℕ) (found : Bool) → InSets desks n ch found c (λ s. emit s (timeTaken s d)) r (now (buffer .entry)) (now (buffer .exit))) ⌝ }
 {
     let recipients = channel::only(d);
     let need = records::space_to(recipients, Body::OperationRequest);
@@ -141,7 +143,7 @@ fn time_told(desks: [Desk; 4], d: u8, c: Channel, buffer: &mut [u8]) -> Change
 
 // 550421: nothing is sent.
 fn answered(desks: [Desk; 4], d: u8, state: u32, c: Channel, buffer: &mut [u8]) -> Change
-    ensures { λ r. ⌜ Makes (emitIn desks c (answerIn desks d state c) (length (now (buffer .entry)))) r (now (buffer .entry)) (now (buffer .exit)) ⌝ }
+    ensures { λ r. ⌜ ((n ch : ℕ) (found : Bool) → InSets desks n ch found c (λ s. emit s (answerTaken s d state)) r (now (buffer .entry)) (now (buffer .exit))) ⌝ }
 {
     let desk = set_rules::desk_at(desks, d);
     let link = desk.link.answered(state);
@@ -165,31 +167,36 @@ fn ordered(d: u8, order: u32) -> Event
     }
 }
 
-// What desk d asks by telegram.
+// What a desk asks by telegram.
 fn on_request(
     desks: [Desk; 4],
     n: u8,
-    d: u8,
-    q: Request,
+    x: Entry,
+    request: Request,
     found: bool,
     c: Channel,
     buffer: &mut [u8],
 ) -> Change
-    ensures { λ r. ⌜ Makes (requestOn desks n d q found c (length (now (buffer .entry)))) r (now (buffer .entry)) (now (buffer .exit)) ⌝ }
+    ensures { λ r. ⌜ AnswersTo desks n x (Asked.ByTelegram request) found c r (now (buffer .entry)) (now (buffer .exit)) ⌝ }
 {
+    let d = x.desk;
     let desk = set_rules::desk_at(desks, d);
-    let refusal = judge::judge_request(q, d, desk, found, c);
+    let refusal = judge::judge_request(request, d, desk, found, c);
     if refusal != 0 {
         return refuse(desks, c, refusal);
     }
-    let identifier = q.identifier;
-    match identifier {
-        550411 => time_told(desks, d, c, buffer),
-        550421 => answered(desks, d, q.flag, c, buffer),
-        _ => {
-            let event = ordered(d, q.flag);
+    match request {
+        Request::TellsTime => time_told(desks, d, c, buffer),
+        Request::TellsState { state } => answered(desks, d, state, c, buffer),
+        Request::AsksChannel {
+            channel,
+            number,
+            order,
+        } => {
+            let event = ordered(d, order);
             on_channel(desks, n, d, event, c, buffer)
         }
+        Request::Foreign => refuse(desks, c, 0),
     }
 }
 
@@ -198,18 +205,16 @@ pub fn change_of(
     desks: [Desk; 4],
     n: u8,
     x: Entry,
-    q: Request,
+    asked: Asked,
     found: bool,
     c: Channel,
     buffer: &mut [u8],
 ) -> Change
-    ensures { λ r. ⌜ Makes (changeIn desks n x q found c (length (now (buffer .entry)))) r (now (buffer .entry)) (now (buffer .exit)) ⌝ }
+    ensures { λ r. ⌜ AnswersTo desks n x asked found c r (now (buffer .entry)) (now (buffer .exit)) ⌝ }
 {
-    if x.kind == 1 {
-        return on_request(desks, n, x.desk, q, found, c, buffer);
+    match asked {
+        Asked::Refusal(refusal) => refuse(desks, c, refusal),
+        Asked::ByTelegram(request) => on_request(desks, n, x, request, found, c, buffer),
+        Asked::OnLine => line(desks, n, x, found, c, buffer),
     }
-    if q.refusal != 0 {
-        return refuse(desks, c, q.refusal);
-    }
-    line(desks, n, x, found, c, buffer)
 }

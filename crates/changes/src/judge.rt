@@ -1,14 +1,15 @@
-// The refusals 7 to 15, by the desk and the channel that an entry or a request names.
-use super::request::Request;
+// The refusals from 11 on, by the desk and the channel that an entry or a request names.
 use channel::Channel;
 use fields::Digits;
 use set_rules::Desk;
 use set_rules::Entry;
+use set_rules::Request;
+ghost use Prim.Native.Nat.{ℕ};
 ghost use mathlib.Core.Path.{_≡_};
 ghost use mathlib.Core.Bool.{cond};
 ghost use lib.Dec.{eqb};
-ghost use Rattle.set_rules.specs.Refusals.{isCaller};
-ghost use Rattle.changes.specs.Judging.{pressRefusal, mobileRefusal, lineRefusal, phaseNeeded, requestRefusal};
+ghost use Rattle.set_rules.specs.Refusals.{isCaller, phaseOf};
+ghost use Rattle.changes.specs.Judging.{pressRefusal, mobileRefusal, lineRefusal, channelRefusal, requestRefusal};
 
 fn is_caller(number: Digits) -> bool
     ensures { λ r. ⌜ r ≡ isCaller number ⌝ }
@@ -26,12 +27,9 @@ fn is_again(on: u8, pressed: bool) -> bool
     if pressed { on == 1 } else { on == 0 }
 }
 
-fn judge_press(x: Entry, there: bool, phase: u8, found: bool, c: Channel) -> u8
-    ensures { λ r. ⌜ r ≡ pressRefusal x there phase found c ⌝ }
+fn judge_press(x: Entry, phase: u8, found: bool, c: Channel) -> u8
+    ensures { λ r. ⌜ r ≡ pressRefusal x phase found c ⌝ }
 {
-    if !there {
-        return 7;
-    }
     if phase != 3 {
         return 11;
     }
@@ -68,55 +66,63 @@ fn judge_mobile(x: Entry, found: bool, c: Channel) -> u8
     if channel::is_present(arrival) { 15 } else { 0 }
 }
 
-// A press, a cut, a mobile on or off: `there` says whether the plan has the desk, `found` whether it has the channel.
-pub fn judge_line(x: Entry, there: bool, phase: u8, found: bool, c: Channel) -> u8
-    ensures { λ r. ⌜ r ≡ lineRefusal x there phase found c ⌝ }
+// A press, a cut, a mobile on or off, by the phase of its desk, and whether the plan has the channel.
+pub fn judge_line(x: Entry, phase: u8, found: bool, c: Channel) -> u8
+    ensures { λ r. ⌜ r ≡ lineRefusal x phase found c ⌝ }
 {
     if x.kind == 2 {
-        return judge_press(x, there, phase, found, c);
+        return judge_press(x, phase, found, c);
     }
     if x.kind == 3 {
-        return judge_press(x, there, phase, found, c);
+        return judge_press(x, phase, found, c);
     }
     judge_mobile(x, found, c)
 }
 
 // The phase that a telegram needs.
-fn phase_of(identifier: u32) -> u8
-    ensures { λ r. ⌜ r ≡ phaseNeeded identifier ⌝ }
+fn phase_of(request: Request) -> u8
+    ensures { λ r. ⌜ r ≡ phaseOf request ⌝ }
 {
-    match identifier {
-        550411 => 1,
-        550421 => 2,
-        _ => 3,
+    match request {
+        Request::TellsTime => 1,
+        Request::TellsState { state } => 2,
+        Request::AsksChannel {
+            channel,
+            number,
+            order,
+        } => 3,
+        Request::Foreign => 3,
     }
 }
 
-// What a desk at place d asks by telegram.
-pub fn judge_request(q: Request, d: u8, desk: Desk, found: bool, c: Channel) -> u8
-    ensures { λ r. ⌜ r ≡ requestRefusal q d desk found c ⌝ }
+// A channel that a desk at place d asks for, by its number.
+fn judge_channel(number: u32, d: u8, desk: Desk, found: bool, c: Channel) -> u8
+    ensures { λ r. ⌜ r ≡ channelRefusal number d desk found c ⌝ }
 {
-    if q.refusal != 0 {
-        return q.refusal;
-    }
-    if desk.link.phase != phase_of(q.identifier) {
-        return 11;
-    }
-    if q.identifier == 550411 {
-        return 0;
-    }
-    if q.identifier == 550421 {
-        return 0;
-    }
     if !found {
         return 12;
     }
     if !channel::is_in(d, c.entitled) {
         return 12;
     }
-    if q.number == desk.number.digits {
-        0
-    } else {
-        13
+    if number == desk.number.digits { 0 } else { 13 }
+}
+
+// What a desk at place d asks by telegram.
+pub fn judge_request(request: Request, d: u8, desk: Desk, found: bool, c: Channel) -> u8
+    ensures { λ r. ⌜ r ≡ requestRefusal request d desk found c ⌝ }
+{
+    if desk.link.phase != phase_of(request) {
+        return 11;
+    }
+    match request {
+        Request::TellsTime => 0,
+        Request::TellsState { state } => 0,
+        Request::AsksChannel {
+            channel,
+            number,
+            order,
+        } => judge_channel(number.digits, d, desk, found, c),
+        Request::Foreign => 0,
     }
 }

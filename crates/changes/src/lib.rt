@@ -8,5 +8,6 @@ mod request;
 pub use change::Change;
 pub use change::change_of;
 pub use change::moved;
-pub use request::Request;
-pub use request::request_of;
+pub use request::Asked;
+pub use request::asked_of;
+pub use request::named_in;

@@ -5,8 +5,7 @@ ghost use mathlib.Core.Path.{_≡_};
 ghost use mathlib.Core.Bool.{_&&_, cond};
 ghost use Prim.Native.Nat.{_≤_};
 ghost use lib.ListN.{take};
-ghost use Rattle.set_rules.specs.State.{isRunning, runningFrom};
-ghost use Rattle.changes.specs.Changes.{linkedAt};
+ghost use Rattle.set_rules.specs.State.{isRunning, runningFrom, linkedAt};
 
 // A desk's place in a set of desks, if it listens there.
 fn place_if(listens: bool, desk: Desk, place: u8) -> u8

@@ -9,7 +9,7 @@ use lib.Dec.{eqb, leb, ltb}
 use lib.ListN.{length}
 use borrow.Author.Tests.{leb-true, eqb-true, ltb-true, ltb-false, ne-eqb}
 use Rattle.fields.proofs.DigitLaws.{both}
-use Rattle.set_rules.proofs.ByKind.{pick-each}
+use Rattle.set_rules.proofs.ByKind.{_▹_, pick-each}
 use Rattle.set_rules.specs.Entries.{byte, measured, payload, sizes, sizeOk, payloadOk, readEntry}
 
 kind-is : (k : ℕ) (e : List ℕ) → payload k e .kind ≡ k
@@ -58,28 +58,16 @@ kind-read e h = go (measured e) refl (eqb (byte e 2) 1) refl (payloadOk (byte e 
 -- a payload of a right size is of a kind from 1 to 8
 sized-kind : (k n : ℕ) → sizeOk k n ≡ true → (1 ≤ k) × (k ≤ 8)
 sized-kind k n =
-    pick-each (λ ok. ok n ≡ true → (1 ≤ k) × (k ≤ 8)) k (λ n. false) sizes (λ h. absurd (false≢true h)) (
-      known 1 (omega arith) (omega arith),
-      (
-        known 2 (omega arith) (omega arith),
-        (
-          known 3 (omega arith) (omega arith),
-          (
-            known 4 (omega arith) (omega arith),
-            (
-              known 5 (omega arith) (omega arith),
-              (
-                known 6 (omega arith) (omega arith),
-                (
-                  known 7 (omega arith) (omega arith),
-                  (known 8 (omega arith) (omega arith), tt),
-                ),
-              ),
-            ),
-          ),
-        ),
-      ),
-    )
+    pick-each (λ ok. ok n ≡ true → (1 ≤ k) × (k ≤ 8)) k (λ n. false) sizes (λ h. absurd (false≢true h))
+    (known 1 (omega arith) (omega arith)
+    ▹ known 2 (omega arith) (omega arith)
+    ▹ known 3 (omega arith) (omega arith)
+    ▹ known 4 (omega arith) (omega arith)
+    ▹ known 5 (omega arith) (omega arith)
+    ▹ known 6 (omega arith) (omega arith)
+    ▹ known 7 (omega arith) (omega arith)
+    ▹ known 8 (omega arith) (omega arith)
+    ▹ tt)
   where
     known : {P : Type 0} (i : ℕ) → 1 ≤ i → i ≤ 8 → k ≡ i → P → (1 ≤ k) × (k ≤ 8)
     known i low high e p = (omega arith, omega arith)

@@ -1,8 +1,6 @@
 pub mod Seeking
-pub mod ByKind
+pub mod WholeSet
 pub mod Emission
 pub mod Turns
-pub mod Asking
 pub mod Lengths
-pub mod Lifting
 pub mod OneStep

@@ -14,15 +14,15 @@ ghost use lib.ListN.{length};
 ghost use Rattle.channel.specs.declared.state.Event.the-variants.{Tick};
 ghost use Rattle.records.specs.Emitting.{written};
 ghost use Rattle.set_rules.specs.State.{channelsOf};
-ghost use Rattle.set_rules.specs.Records.{delivered, recordsOf, spaceOf};
-ghost use Rattle.set_rules.specs.SetRules.{sendsOf, onTick, onHandover};
+ghost use Rattle.set_rules.specs.Records.{recordsOf, spaceOf};
+ghost use Rattle.set_rules.specs.SetRules.{sentIn, sendsOf, onTick, onHandover};
 ghost use Rattle.set_rules.specs.Feeds.{emit};
 ghost use Rattle.set_rules.specs.declared.state.LineSet.{LineSet};
-ghost use Rattle.line_set.specs.Steps.{Gives, sendsIn};
+ghost use Rattle.changes.specs.Changes.{Gives};
 
 // The space that an event on one channel takes. Most channels are at rest, and then nothing is built.
 fn space_in(desks: [Desk; 4], n: u8, event: Event, c: Channel) -> usize
-    ensures { λ r. ⌜ (r ≡ spaceOf (delivered (c .code) (sendsIn desks n event c))) × (r ≤ 2856) ⌝ }
+    ensures { λ r. ⌜ (r ≡ spaceOf (sentIn desks n event c)) × (r ≤ 2856) ⌝ }
 {
     if !lines::sends_any(event, c) {
         return 0;
@@ -36,8 +36,8 @@ fn space_in(desks: [Desk; 4], n: u8, event: Event, c: Channel) -> usize
 
 // Writes what an event on one channel sends.
 fn put_in(buffer: &mut [u8], at: usize, desks: [Desk; 4], n: u8, event: Event, c: Channel) -> usize
-    requires { ⌜ at + length (recordsOf desks (delivered (c .code) (sendsIn desks n event c))) ≤ length (now buffer) ⌝ }
-    ensures { λ r. ⌜ (r ≡ at + length (recordsOf desks (delivered (c .code) (sendsIn desks n event c)))) × (now (buffer .exit) ≡ written (now (buffer .entry)) at (recordsOf desks (delivered (c .code) (sendsIn desks n event c)))) ⌝ }
+    requires { ⌜ at + length (recordsOf desks (sentIn desks n event c)) ≤ length (now buffer) ⌝ }
+    ensures { λ r. ⌜ (r ≡ at + length (recordsOf desks (sentIn desks n event c))) × (now (buffer .exit) ≡ written (now (buffer .entry)) at (recordsOf desks (sentIn desks n event c))) ⌝ }
 {
     if !lines::sends_any(event, c) {
         return at;
@@ -51,7 +51,7 @@ fn put_in(buffer: &mut [u8], at: usize, desks: [Desk; 4], n: u8, event: Event, c
 
 // The space that an event on all channels takes.
 fn space_all(set: LineSet, event: Event) -> usize
-    ensures { λ r. ⌜ r ≡ spaceOf (sendsOf set event (channelsOf set)) ⌝ }
+    ensures { λ r. ⌜ r ≡ spaceOf (sendsOf (set .desks) (set .size .desks) event (channelsOf set)) ⌝ }
 {
     let desks = set.desks;
     let n = set.size.desks;
@@ -68,8 +68,8 @@ fn space_all(set: LineSet, event: Event) -> usize
 
 // Writes what an event on all channels sends.
 fn put_all(set: LineSet, event: Event, buffer: &mut [u8]) -> usize
-    requires { ⌜ length (recordsOf (set .desks) (sendsOf set event (channelsOf set))) ≤ length (now buffer) ⌝ }
-    ensures { λ r. ⌜ (r ≡ length (recordsOf (set .desks) (sendsOf set event (channelsOf set)))) × (now (buffer .exit) ≡ written (now (buffer .entry)) 0 (recordsOf (set .desks) (sendsOf set event (channelsOf set)))) ⌝ }
+    requires { ⌜ length (recordsOf (set .desks) (sendsOf (set .desks) (set .size .desks) event (channelsOf set))) ≤ length (now buffer) ⌝ }
+    ensures { λ r. ⌜ (r ≡ length (recordsOf (set .desks) (sendsOf (set .desks) (set .size .desks) event (channelsOf set)))) × (now (buffer .exit) ≡ written (now (buffer .entry)) 0 (recordsOf (set .desks) (sendsOf (set .desks) (set .size .desks) event (channelsOf set)))) ⌝ }
 {
     let desks = set.desks;
     let n = set.size.desks;

@@ -27,14 +27,15 @@ pub fn step(mut set: LineSet, entry: &[u8], buffer: &mut [u8]) -> Answer
     }
     let desks = set.desks;
     let n = set.size.desks;
-    let q = changes::request_of(x, set.planned, entry, desks, n);
+    let asked = changes::asked_of(x, set.planned, entry, desks, n);
+    let code = changes::named_in(asked, x);
     let count = places::count_of(set.size.channels);
     // The channel's place is sought. Where it is found, the search ends.
     let mut end = count;
     let mut i = 0;
     while i < end {
         let c = set.channels[i];
-        if c.code as u32 == q.channel {
+        if c.code as u32 == code {
             end = i;
         } else {
             i += 1;
@@ -42,7 +43,7 @@ pub fn step(mut set: LineSet, entry: &[u8], buffer: &mut [u8]) -> Answer
     }
     let place = places::place_below(count, i);
     let c = set.channels[place];
-    let a = changes::change_of(desks, n, x, q, i < count, c, buffer);
+    let a = changes::change_of(desks, n, x, asked, i < count, c, buffer);
     let channel = a.channel;
     set.channels[place] = channel;
     let after = a.desks;

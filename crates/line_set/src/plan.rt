@@ -5,10 +5,16 @@ use set_rules::Answer;
 use set_rules::LineSet;
 ghost use mathlib.Core.Path.{_≡_};
 ghost use lib.ListN.{length};
-ghost use Rattle.line_set.specs.Steps.{Gives, planOutcome};
+ghost use mathlib.Core.List.{List};
+ghost use Prim.Native.Nat.{ℕ};
+ghost use Rattle.set_rules.specs.Entries.{planIn};
+ghost use Rattle.set_rules.specs.Feeds.{outcomeOf};
+ghost use Rattle.set_rules.specs.declared.state.Entry.{Entry};
+ghost use Rattle.changes.specs.Changes.{Gives};
 
+// An entry that is a plan, by the bytes of the plan.
 pub fn plan(set: LineSet, bytes: &[u8], buffer: &mut [u8]) -> Answer
-    ensures { λ r. ⌜ Gives (planOutcome set (now (bytes .entry)) (length (now (buffer .entry)))) r (now (buffer .entry)) (now (buffer .exit)) ⌝ }
+    ensures { λ r. ⌜ ((e : List ℕ) (x : Entry) → x .refusal ≡ 0 → x .kind ≡ 7 → planIn e ≡ now (bytes .entry) → Gives (outcomeOf set e x (length (now (buffer .entry)))) r (now (buffer .entry)) (now (buffer .exit))) ⌝ }
 {
     if set.planned {
         return answer::refuse(set, 5);

@@ -23,20 +23,22 @@ use Rattle.channel.specs.declared.state.Send.{Send}
 use Rattle.set_rules.specs.State.{newSet, noDesk}
 use Rattle.set_rules.specs.Entries.{readEntry, telegramIn}
 use Rattle.set_rules.specs.ByKind.{pick}
-use Rattle.set_rules.specs.Refusals.{Request, tellsTime, tellsState, asksChannel, foreign, askedIn, refusalOf}
+use Rattle.set_rules.specs.Refusals.{askedIn, refusalOf}
 use Rattle.set_rules.specs.Records.{Delivery, delivered, recordFor, recordSize, toEach, recordsOf, spaceOf}
-use Rattle.set_rules.specs.SetRules.{Effect, happensIn, onChannel, sendsOf, onTick, onHandover, onRequest, ways, accepted}
-use Rattle.set_rules.specs.Feeds.{Outcome, Item, refuse, emit, stepOf, stepBy, run, after}
+use Rattle.set_rules.specs.SetRules.{Effect, movedIn, onChannel, sendsOf, onTick, onHandover, onRequest, ways, accepted}
+use Rattle.set_rules.specs.Feeds.{Outcome, Item, refuse, emit, outcomeOf, stepOf, stepBy, run, after}
 use Rattle.set_rules.specs.Promises.{Refused, Counted, Renewed}
 use Rattle.set_rules.specs.declared.state.Desk.{Desk}
 use Rattle.set_rules.specs.declared.state.LineSet.{LineSet}
 use Rattle.set_rules.specs.declared.state.Entry.{Entry}
-use Rattle.set_rules.proofs.ByKind.{pick-each}
+use Rattle.set_rules.specs.declared.state.Request.{Request}
+use Rattle.set_rules.specs.declared.state.Request.the-variants.{TellsTime, TellsState, AsksChannel, Foreign}
+use Rattle.set_rules.proofs.ByKind.{_▹_, pick-each}
 
 -- ---- refused answers
 
 pub refused : Refused
-unfolding stepOf
+unfolding outcomeOf stepOf
 refused s e room h = go (eqb (refusalOf s e (readEntry e)) 0) refl (leb (spaceOf (accepted s e (readEntry e) .sent)) room) refl
   where
     go : (t : Bool) → eqb (refusalOf s e (readEntry e)) 0 ≡ t → (u : Bool) → leb (spaceOf (accepted s e (readEntry e) .sent)) room ≡ u
@@ -118,49 +120,39 @@ even-append : (vs ws : List Delivery) → AllEven vs → AllEven ws → AllEven 
 even-append [] ws e f = f
 even-append (v ∷ vs) ws e f = (e .0, even-append vs ws (e .1) f)
 
-pub even-all : (s : LineSet) (v : Event) (cs : List Channel) → AllEven (sendsOf s v cs)
+pub even-all : (ds : List Desk) (n : ℕ) (v : Event) (cs : List Channel) → AllEven (sendsOf ds n v cs)
 unfolding sendsOf
-even-all s v [] = tt
-even-all s v (c ∷ cs) = even-append (delivered (c .code) (happensIn s v c .sends)) (sendsOf s v cs) (even-sends (c .code) (happensIn s v c .sends)) (even-all s v cs)
+even-all ds n v [] = tt
+even-all ds n v (c ∷ cs) =
+    let ss = movedIn ds n v c .sends in
+    even-append (delivered (c .code) ss) (sendsOf ds n v cs) (even-sends (c .code) ss) (even-all ds n v cs)
 
 pub even-on : (s : LineSet) (ch d : ℕ) (v : Event) → AllEven (onChannel s ch d v .sent)
 unfolding onChannel
 even-on s ch d v = even-sends _ _
 
 even-request : (s : LineSet) (d : ℕ) (q : Request) → AllEven (onRequest s d q .sent)
-even-request s d tellsTime = (λ k. refl, tt)
-even-request s d (tellsState a) = tt
-even-request s d (asksChannel ch n o) = even-on s ch d _
-even-request s d foreign = tt
+even-request s d TellsTime = (λ k. refl, tt)
+even-request s d (TellsState a) = tt
+even-request s d (AsksChannel ch n o) = even-on s ch d _
+even-request s d Foreign = tt
 
 pub even-accepted : (s : LineSet) (e : List ℕ) (x : Entry) → AllEven (accepted s e x .sent)
 unfolding accepted onTick onHandover
 even-accepted s e x =
-    pick-each (λ f. AllEven (f .sent)) (x .kind) _ (ways s e x) tt (
-      λ k. even-request s (x .desk) (askedIn (readTelegram (telegramIn e))),
-      (
-        λ k. even-on s (x .channel) _ _,
-        (
-          λ k. even-on s (x .channel) _ _,
-          (
-            λ k. even-on s (x .channel) _ _,
-            (
-              λ k. even-on s (x .channel) _ _,
-              (
-                λ k. even-all s _ _,
-                (
-                  λ k. (λ d. refl, tt),
-                  (λ k. even-all s _ _, tt),
-                ),
-              ),
-            ),
-          ),
-        ),
-      ),
-    )
+    pick-each (λ f. AllEven (f .sent)) (x .kind) _ (ways s e x) tt
+    ((λ k. even-request s (x .desk) (askedIn (readTelegram (telegramIn e))))
+    ▹ (λ k. even-on s (x .channel) _ _)
+    ▹ (λ k. even-on s (x .channel) _ _)
+    ▹ (λ k. even-on s (x .channel) _ _)
+    ▹ (λ k. even-on s (x .channel) _ _)
+    ▹ (λ k. even-all (s .desks) (s .size .desks) _ _)
+    ▹ (λ k. (λ d. refl, tt))
+    ▹ (λ k. even-all (s .desks) (s .size .desks) _ _)
+    ▹ tt)
 
 pub counted : Counted
-unfolding stepOf
+unfolding outcomeOf stepOf
 counted s e room = go (eqb (refusalOf s e (readEntry e)) 0) refl (leb (spaceOf (accepted s e (readEntry e) .sent)) room) refl
   where
     go : (t : Bool) → eqb (refusalOf s e (readEntry e)) 0 ≡ t → (u : Bool) → leb (spaceOf (accepted s e (readEntry e) .sent)) room ≡ u
@@ -178,7 +170,7 @@ handed-over s e x h = rw h
 -- an accepted entry: no row of the table holds, and the set after is the rule's
 pub accepted-after : (s : LineSet) (i : Item) → stepBy s i .refusal ≡ 0
     → (refusalOf s (i .entry) (readEntry (i .entry)) ≡ 0) × (stepBy s i .after ≡ accepted s (i .entry) (readEntry (i .entry)) .after)
-unfolding stepOf
+unfolding outcomeOf stepOf
 accepted-after s i z =
     go (eqb (refusalOf s (i .entry) (readEntry (i .entry))) 0) refl (leb (spaceOf (accepted s (i .entry) (readEntry (i .entry)) .sent)) (i .room)) refl
   where

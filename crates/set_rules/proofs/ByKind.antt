@@ -1,13 +1,18 @@
 -- Going kind by kind, said once: of the row that a table has for a kind.
 -- Assumes nothing.
 use Prim.Native.Nat.{ℕ}
-use mathlib.Core.List.{List, [], _∷_}
+use mathlib.Core.List.{List, [], _∷_, map}
 use mathlib.Core.Bool.{Bool, true, false, cond}
 use mathlib.Core.Path.{_≡_, refl, subst}
 use lib.Dec.{eqb}
 use borrow.Author.Tests.{eqb-true}
 use Rattle.set_rules.specs.ByKind.{pick}
 use Rattle.set_rules.specs.Invariant.{Each}
+
+-- what is shown of one row, and then of those behind it
+infixr 4 _▹_
+pub _▹_ : {A B : Type 0} → A → B → A × B
+a ▹ b = (a, b)
 
 module _ {A : Type 0} where
   -- what holds of each row, for an entry of its kind, and of z, holds of the row picked
@@ -20,22 +25,27 @@ module _ {A : Type 0} where
       go true e rest = o .0 (eqb-true k (w .0) e)
       go false e rest = rest
 
-  -- two tables with the same kinds, whose rows are related one by one
+  -- two tables whose rows are related one by one; a row of another kind is related to none
   abbrev pub Matched : (A → A → Type 0) → List (ℕ × A) → List (ℕ × A) → Type 0
   Matched R [] [] = Unit {0}
   Matched R [] (b ∷ bs) = ⊥
   Matched R (a ∷ rows) [] = ⊥
-  Matched R (a ∷ rows) (b ∷ bs) = (a .0 ≡ b .0) × (R (a .1) (b .1) × Matched R rows bs)
+  Matched R (a ∷ rows) (b ∷ bs) = R (a .1) (b .1) × Matched R rows bs
 
-  pub pick-matched : (R : A → A → Type 0) (k : ℕ) (z z′ : A) (l l′ : List (ℕ × A)) → R z z′ → Matched R l l′ → R (pick k z l) (pick k z′ l′)
+  abbrev pub kinds : List (ℕ × A) → List ℕ
+  kinds rows = map (λ (w : ℕ × A). w .0) rows
+
+  pub pick-matched : (R : A → A → Type 0) (k : ℕ) (z z′ : A) (l l′ : List (ℕ × A)) → kinds l ≡ kinds l′ → R z z′ → Matched R l l′ → R (pick k z l) (pick k z′ l′)
   unfolding pick
-  pick-matched R k z z′ [] [] h w = h
-  pick-matched R k z z′ [] (b ∷ bs) h w = absurd w
-  pick-matched R k z z′ (a ∷ rows) [] h w = absurd w
-  pick-matched R k z z′ (a ∷ rows) (b ∷ bs) h w =
-      subst (λ (i : ℕ). R (cond (eqb k (a .0)) (a .1) (pick k z rows)) (cond (eqb k i) (b .1) (pick k z′ bs))) (w .0)
-      (go (eqb k (a .0)) (pick-matched R k z z′ rows bs h (w .1 .1)))
+  pick-matched R k z z′ [] [] e h w = h
+  pick-matched R k z z′ [] (b ∷ bs) e h w = absurd w
+  pick-matched R k z z′ (a ∷ rows) [] e h w = absurd w
+  pick-matched R k z z′ (a ∷ rows) (b ∷ bs) e h w =
+      let same : a .0 ≡ b .0 = cc in
+      let rest : kinds rows ≡ kinds bs = cc in
+      subst (λ (i : ℕ). R (cond (eqb k (a .0)) (a .1) (pick k z rows)) (cond (eqb k i) (b .1) (pick k z′ bs))) same
+      (go (eqb k (a .0)) (pick-matched R k z z′ rows bs rest h (w .1)))
     where
       go : (t : Bool) → R (pick k z rows) (pick k z′ bs) → R (cond t (a .1) (pick k z rows)) (cond t (b .1) (pick k z′ bs))
-      go true rest = w .1 .0
+      go true rest = w .0
       go false rest = rest

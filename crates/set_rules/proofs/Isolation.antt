@@ -29,16 +29,18 @@ use Rattle.line_rules.proofs.Veil.{none-in, veil, hide, hide-twice, hideNotice,
 use Rattle.set_rules.specs.State.{newSet, noChannel, deskAt, channelsOf, placeOf, placeIn, channelAt, hasChannel, listenersOf, withChannels}
 use Rattle.set_rules.specs.ByKind.{pick}
 use Rattle.set_rules.specs.Entries.{byte, measured, readEntry, sizeOk, asks, bad, mobileIn, telegramIn}
-use Rattle.set_rules.specs.Refusals.{Request, tellsTime, tellsState, asksChannel, foreign, Test, askedIn, mayUse, mayAsk, firstOf, refusalOf, isCaller, table}
+use Rattle.set_rules.specs.Refusals.{Lookup, lookup, Test, askedIn, namedBy, mayAsk, firstOf, refusalOf, isCaller, table}
 use Rattle.set_rules.specs.Records.{Delivery, delivered, recordSize, recordsOf, spaceOf}
-use Rattle.set_rules.specs.SetRules.{Effect, effect, telegramTo, timeTaken, answerTaken, contextOf, onChannel, byHolder, happensIn, nextsOf, sendsOf, onTick, onHandover, onRequest, numberIn, ways, accepted}
-use Rattle.set_rules.specs.Feeds.{Outcome, Item, refuse, emit, stepOf, stepBy, ofDesk, received, Seen, seenOf, views}
+use Rattle.set_rules.specs.SetRules.{Effect, effect, telegramTo, timeTaken, answerTaken, contextOf, onChannel, byHolder, movedBy, movedIn, nextsOf, sendsOf, onTick, onHandover, onRequest, numberIn, ways, accepted}
+use Rattle.set_rules.specs.Feeds.{Outcome, Item, refuse, emit, outcomeOf, stepOf, stepBy, ofDesk, received, Seen, seenOf, views}
 use Rattle.set_rules.specs.Promises.{AlikeBut, Renumbered, OtherHolds, MayDiffer, same, talks, Related, none, more, Isolated}
 use Rattle.set_rules.specs.Invariant.{Each}
 use Rattle.set_rules.specs.declared.state.Desk.{Desk}
 use Rattle.set_rules.specs.declared.state.LineSet.{LineSet}
 use Rattle.set_rules.specs.declared.state.Entry.{Entry}
-use Rattle.set_rules.proofs.ByKind.{pick-matched}
+use Rattle.set_rules.specs.declared.state.Request.{Request}
+use Rattle.set_rules.specs.declared.state.Request.the-variants.{TellsTime, TellsState, AsksChannel, Foreign}
+use Rattle.set_rules.proofs.ByKind.{_▹_, pick-matched}
 use Rattle.set_rules.proofs.Received.{Like, AllLike, space-like, received-like, like-self, like-append}
 
 -- ---- lists of channels
@@ -121,69 +123,45 @@ module _ (B : ℕ) where
       ap (λ (p : ℕ). getD (take (s .size .channels) (hides (s .channels))) p noChannel) (place-hide (s .size .channels) ch (s .channels))
       ∙ at-hide (s .size .channels) (placeIn s ch) (s .channels)
 
-  -- a row that goes by what is left of the set
-  abbrev Blind : LineSet → List ℕ → Reading → Entry → ℕ × Test → Type 0
-  Blind s e r x row = (row .1) (hideSet s) e r x ≡ (row .1) s e r x
+  -- what is left of what the rows go by
+  abbrev hideLookup : Lookup → Lookup
+  hideLookup v = record { planned = v .planned; desks = v .desks; count = v .count; found = v .found; channel = hide B (v .channel) }
 
-  rows-hide : (s : LineSet) (e : List ℕ) (r : Reading) (x : Entry) (rows : List (ℕ × Test)) → Each (Blind s e r x) rows
-      → firstOf rows (hideSet s) e r x ≡ firstOf rows s e r x
+  lookup-hide : (s : LineSet) (ch : ℕ) → lookup (hideSet s) ch ≡ hideLookup (lookup s ch)
+  lookup-hide s ch = rw (channelAt-hide s ch, place-hide (s .size .channels) ch (s .channels), count-hide (s .size .channels) (s .channels)) refl
+
+  -- a row that goes by that
+  abbrev Blind : Lookup → List ℕ → Reading → Entry → ℕ × Test → Type 0
+  Blind v e r x row = (row .1) (hideLookup v) e r x ≡ (row .1) v e r x
+
+  rows-hide : (v : Lookup) (e : List ℕ) (r : Reading) (x : Entry) (rows : List (ℕ × Test)) → Each (Blind v e r x) rows
+      → firstOf rows (hideLookup v) e r x ≡ firstOf rows v e r x
   unfolding firstOf
-  rows-hide s e r x [] w = refl
-  rows-hide s e r x (row ∷ rows) w = rw (w .0, rows-hide s e r x rows (w .1))
+  rows-hide v e r x [] w = refl
+  rows-hide v e r x (row ∷ rows) w = rw (w .0, rows-hide v e r x rows (w .1))
 
-  has-hide : (s : LineSet) (ch : ℕ) → hasChannel (hideSet s) ch ≡ hasChannel s ch
-  has-hide s ch = simp (place-hide, count-hide) refl
+  ask-hide : (v : Lookup) (d : ℕ) (q : Request) → mayAsk (hideLookup v) d q ≡ mayAsk v d q
+  ask-hide v d TellsTime = refl
+  ask-hide v d (TellsState a) = refl
+  ask-hide v d (AsksChannel ch n o) = refl
+  ask-hide v d Foreign = refl
 
-  use-hide : (s : LineSet) (d ch : ℕ) → mayUse (hideSet s) d ch ≡ mayUse s d ch
-  use-hide s d ch = simp (has-hide s ch, channelAt-hide s ch) refl
-
-  ask-hide : (s : LineSet) (d : ℕ) (q : Request) → mayAsk (hideSet s) d q ≡ mayAsk s d q
-  ask-hide s d tellsTime = refl
-  ask-hide s d (tellsState a) = refl
-  ask-hide s d (asksChannel ch n o) = use-hide s d ch
-  ask-hide s d foreign = refl
-
-  blind : (s : LineSet) (e : List ℕ) (r : Reading) (x : Entry) → Each (Blind s e r x) table
-  blind s e r x =
-      -- 4 to 11 do not look at a channel
-      (
-        refl,
-        (
-          refl,
-          (
-            refl,
-            (
-              refl,
-              (
-                refl,
-                (
-                  refl,
-                  (
-                    refl,
-                    (
-                      refl,
-                      (
-                        rw (ask-hide s (x .desk) (askedIn r), use-hide s (x .desk) (x .channel), has-hide s (x .channel)),
-                        (
-                          refl,
-                          (
-                            rw (channelAt-hide s (x .channel)),
-                            (simp (channelAt-hide s (x .channel), present-hide B) refl, tt),
-                          ),
-                        ),
-                      ),
-                    ),
-                  ),
-                ),
-              ),
-            ),
-          ),
-        ),
-      )
+  -- only 12 and 15 look at more of the channel than its holder, press and entitled desks
+  blind : (v : Lookup) (e : List ℕ) (r : Reading) (x : Entry) → Each (Blind v e r x) table
+  blind v e r x =
+      refl ▹ refl ▹ refl ▹ refl ▹ refl ▹ refl ▹ refl ▹ refl
+      ▹ (rw (ask-hide v (x .desk) (askedIn r)))
+      ▹ refl
+      ▹ refl
+      ▹ (rw (present-hide B (v .channel .arrival)))
+      ▹ tt
 
   refusal-hide : (s : LineSet) (e : List ℕ) (x : Entry) → refusalOf (hideSet s) e x ≡ refusalOf s e x
   unfolding refusalOf
-  refusal-hide s e x = rw (rows-hide s e (readTelegram (telegramIn e)) x table (blind s e (readTelegram (telegramIn e)) x))
+  refusal-hide s e x =
+      let r = readTelegram (telegramIn e) in
+      let ch = namedBy (askedIn r) x in
+      rw (lookup-hide s ch, rows-hide (lookup s ch) e r x table (blind (lookup s ch) e r x))
 
   -- ---- what an effect shows B, and what it leaves
 
@@ -260,56 +238,56 @@ module _ (B : ℕ) where
   unfolding onChannel
   on-hide s ch d v =
       let c = channelAt s ch in
-      let x = contextOf s c d in
+      let x = contextOf (s .desks) (s .size .desks) c d in
       let p = placeIn s ch in
       rw (place-hide (s .size .channels) ch (s .channels), at-hide (s .size .channels) p (s .channels))
       (place-left s p c (happens v x (hide B c)) ∙ place-shown s p c (happens v x (hide B c)) (happens v x c) (happens-hide B v x c))
 
   -- ---- all channels
 
-  nexts-hide : (s : LineSet) (v : Event) (cs : List Channel) → hides (nextsOf (hideSet s) v (hides cs)) ≡ hides (nextsOf s v cs)
-  unfolding nextsOf
-  nexts-hide s v [] = refl
-  nexts-hide s v (c ∷ cs) =
-      let n : hide B (happensIn s v (hide B c) .next) ≡ hide B (happensIn s v c .next) =
-      ap (λ (x : Step). x .next) (happens-hide B v (contextOf s c (holderPlace (c .holder))) c) in
-      rw (n, nexts-hide s v cs)
+  module _ (ds : List Desk) (n : ℕ) (v : Event) where
+    moved-hide : (c : Channel) → hideStep B (movedIn ds n v (hide B c)) ≡ hideStep B (movedIn ds n v c)
+    moved-hide c = happens-hide B v (contextOf ds n c (holderPlace (c .holder))) c
 
-  -- what the channels send, with the numbers hidden
-  hiddenOf : LineSet → Event → List Channel → List Delivery
-  hiddenOf s v [] = []
-  hiddenOf s v (c ∷ cs) = delivered (c .code) (hideSends B (happensIn s v c .sends)) ++ hiddenOf s v cs
+    nexts-hide : (cs : List Channel) → hides (nextsOf ds n v (hides cs)) ≡ hides (nextsOf ds n v cs)
+    unfolding nextsOf
+    nexts-hide [] = refl
+    nexts-hide (c ∷ cs) =
+        let h : hide B (movedIn ds n v (hide B c) .next) ≡ hide B (movedIn ds n v c .next) = ap (λ (x : Step). x .next) (moved-hide c) in
+        rw (h, nexts-hide cs)
 
-  like-all : (s : LineSet) (v : Event) (cs : List Channel) → AllLike B (sendsOf s v cs) (hiddenOf s v cs)
-  unfolding sendsOf hiddenOf
-  like-all s v [] = tt
-  like-all s v (c ∷ cs) =
-      like-append B (delivered (c .code) (happensIn s v c .sends)) (delivered (c .code) (hideSends B (happensIn s v c .sends))) (sendsOf s v cs) (hiddenOf s v cs)
-      (like-hidden (c .code) (happensIn s v c .sends)) (like-all s v cs)
+    -- what the channels send, with the numbers hidden
+    hiddenOf : List Channel → List Delivery
+    hiddenOf [] = []
+    hiddenOf (c ∷ cs) = delivered (c .code) (hideSends B (movedIn ds n v c .sends)) ++ hiddenOf cs
 
-  hidden-hide : (s : LineSet) (v : Event) (cs : List Channel) → hiddenOf (hideSet s) v (hides cs) ≡ hiddenOf s v cs
-  unfolding hiddenOf
-  hidden-hide s v [] = refl
-  hidden-hide s v (c ∷ cs) =
-      let t : hideSends B (happensIn s v (hide B c) .sends) ≡ hideSends B (happensIn s v c .sends) =
-      ap (λ (x : Step). x .sends) (happens-hide B v (contextOf s c (holderPlace (c .holder))) c) in
-      rw (t, hidden-hide s v cs)
+    like-all : (cs : List Channel) → AllLike B (sendsOf ds n v cs) (hiddenOf cs)
+    unfolding sendsOf hiddenOf
+    like-all [] = tt
+    like-all (c ∷ cs) =
+        let ss = movedIn ds n v c .sends in
+        like-append B (delivered (c .code) ss) (delivered (c .code) (hideSends B ss)) (sendsOf ds n v cs) (hiddenOf cs) (like-hidden (c .code) ss) (like-all cs)
 
-  space-all : (s : LineSet) (v : Event) (cs : List Channel) → spaceOf (sendsOf (hideSet s) v (hides cs)) ≡ spaceOf (sendsOf s v cs)
-  space-all s v cs =
-      space-like B _ _ (like-all (hideSet s) v (hides cs)) ∙ ap spaceOf (hidden-hide s v cs) ∙ sym (space-like B _ _ (like-all s v cs))
+    hidden-hide : (cs : List Channel) → hiddenOf (hides cs) ≡ hiddenOf cs
+    unfolding hiddenOf
+    hidden-hide [] = refl
+    hidden-hide (c ∷ cs) =
+        let t : hideSends B (movedIn ds n v (hide B c) .sends) ≡ hideSends B (movedIn ds n v c .sends) = ap (λ (x : Step). x .sends) (moved-hide c) in
+        rw (t, hidden-hide cs)
 
-  got-all : (ds : List Desk) (s : LineSet) (v : Event) (cs : List Channel)
-      → received B (recordsOf ds (sendsOf (hideSet s) v (hides cs))) ≡ received B (recordsOf ds (sendsOf s v cs))
-  got-all ds s v cs =
-      received-like B ds _ _ (like-all (hideSet s) v (hides cs))
-      ∙ ap (λ (l : List Delivery). received B (recordsOf ds l)) (hidden-hide s v cs)
-      ∙ sym (received-like B ds _ _ (like-all s v cs))
+    space-all : (cs : List Channel) → spaceOf (sendsOf ds n v (hides cs)) ≡ spaceOf (sendsOf ds n v cs)
+    space-all cs = space-like B _ _ (like-all (hides cs)) ∙ ap spaceOf (hidden-hide cs) ∙ sym (space-like B _ _ (like-all cs))
 
-  ticked : (s : LineSet) (cs rest : List Channel) → hides (nextsOf (hideSet s) Tick (hides cs) ++ hides rest) ≡ hides (nextsOf s Tick cs ++ rest)
-  ticked s cs rest =
-      map-append (hide B) (nextsOf (hideSet s) Tick (hides cs)) (hides rest)
-      ∙ rw (nexts-hide s Tick cs, hides-twice rest) (sym (map-append (hide B) (nextsOf s Tick cs) rest))
+    got-all : (cs : List Channel) → received B (recordsOf ds (sendsOf ds n v (hides cs))) ≡ received B (recordsOf ds (sendsOf ds n v cs))
+    got-all cs =
+        received-like B ds _ _ (like-all (hides cs))
+        ∙ ap (λ (l : List Delivery). received B (recordsOf ds l)) (hidden-hide cs)
+        ∙ sym (received-like B ds _ _ (like-all cs))
+
+  ticked : (ds : List Desk) (n : ℕ) (cs rest : List Channel) → hides (nextsOf ds n Tick (hides cs) ++ hides rest) ≡ hides (nextsOf ds n Tick cs ++ rest)
+  ticked ds n cs rest =
+      map-append (hide B) (nextsOf ds n Tick (hides cs)) (hides rest)
+      ∙ rw (nexts-hide ds n Tick cs, hides-twice rest) (sym (map-append (hide B) (nextsOf ds n Tick cs) rest))
 
   tick-hide : (s : LineSet) → shown (onTick (hideSet s)) ≡ shown (onTick s)
   unfolding onTick
@@ -318,14 +296,14 @@ module _ (B : ℕ) where
       let cs = take n (s .channels) in
       let k : take n (hides (s .channels)) ≡ hides cs = take-map (hide B) n (s .channels) in
       let d : drop n (hides (s .channels)) ≡ hides (drop n (s .channels)) = drop-map (hide B) n (s .channels) in
-      rw (k, d, ticked s cs (drop n (s .channels)), space-all s Tick cs, got-all (s .desks) s Tick cs)
+      rw (k, d, ticked (s .desks) (s .size .desks) cs (drop n (s .channels)), space-all (s .desks) (s .size .desks) Tick cs, got-all (s .desks) (s .size .desks) Tick cs)
 
   handover-hide : (s : LineSet) → shown (onHandover (hideSet s)) ≡ shown (onHandover s)
   unfolding onHandover
   handover-hide s =
       let cs = take (s .size .channels) (s .channels) in
       let k : take (s .size .channels) (hides (s .channels)) ≡ hides cs = take-map (hide B) (s .size .channels) (s .channels) in
-      rw (k, space-all s Handover cs, got-all (s .desks) s Handover cs)
+      rw (k, space-all (s .desks) (s .size .desks) Handover cs, got-all (s .desks) (s .size .desks) Handover cs)
 
   -- ---- every accepted entry
 
@@ -336,10 +314,10 @@ module _ (B : ℕ) where
   answer-hide s d a = rw (hides-twice (s .channels))
 
   request-hide : (s : LineSet) (d : ℕ) (q : Request) → shown (onRequest (hideSet s) d q) ≡ shown (onRequest s d q)
-  request-hide s d tellsTime = time-hide s d
-  request-hide s d (tellsState a) = answer-hide s d a
-  request-hide s d (asksChannel ch n o) = on-hide s ch d (cond (eqb o 1) (Capture d) (Release d))
-  request-hide s d foreign = rw (hides-twice (s .channels))
+  request-hide s d TellsTime = time-hide s d
+  request-hide s d (TellsState a) = answer-hide s d a
+  request-hide s d (AsksChannel ch n o) = on-hide s ch d (cond (eqb o 1) (Capture d) (Release d))
+  request-hide s d Foreign = rw (hides-twice (s .channels))
 
   holder-hide : (s : LineSet) (ch : ℕ) (v : Event) → shown (byHolder (hideSet s) ch v) ≡ shown (byHolder s ch v)
   holder-hide s ch v =
@@ -350,50 +328,17 @@ module _ (B : ℕ) where
   accepted-hide : (s : LineSet) (e : List ℕ) (x : Entry) → shown (accepted (hideSet s) e x) ≡ shown (accepted s e x)
   unfolding accepted
   accepted-hide s e x =
-      pick-matched (λ f g. shown f ≡ shown g) (x .kind) (effect (hideSet s) (hideSet s) []) (effect s s []) (ways (hideSet s) e x) (ways s e x)
-      (rw (hides-twice (s .channels))) (
-        refl,
-        (
-          request-hide s (x .desk) (askedIn (readTelegram (telegramIn e))),
-          (
-            refl,
-            (
-              holder-hide s (x .channel) (cond (eqb (x .on) 1) PressOn PressOff),
-              (
-                refl,
-                (
-                  holder-hide s (x .channel) Cut,
-                  (
-                    refl,
-                    (
-                      holder-hide s (x .channel) (MobileOn (x .base) (numberIn (x .number))),
-                      (
-                        refl,
-                        (
-                          holder-hide s (x .channel) MobileOff,
-                          (
-                            refl,
-                            (
-                              tick-hide s,
-                              (
-                                refl,
-                                (
-                                  refl,
-                                  (refl, (handover-hide s, tt)),
-                                ),
-                              ),
-                            ),
-                          ),
-                        ),
-                      ),
-                    ),
-                  ),
-                ),
-              ),
-            ),
-          ),
-        ),
-      )
+      pick-matched (λ f g. shown f ≡ shown g) (x .kind) (effect (hideSet s) (hideSet s) []) (effect s s []) (ways (hideSet s) e x) (ways s e x) refl
+      (rw (hides-twice (s .channels)))
+      (request-hide s (x .desk) (askedIn (readTelegram (telegramIn e)))
+      ▹ holder-hide s (x .channel) (cond (eqb (x .on) 1) PressOn PressOff)
+      ▹ holder-hide s (x .channel) Cut
+      ▹ holder-hide s (x .channel) (MobileOn (x .base) (numberIn (x .number)))
+      ▹ holder-hide s (x .channel) MobileOff
+      ▹ tick-hide s
+      ▹ refl
+      ▹ handover-hide s
+      ▹ tt)
 
   -- ---- one entry: what B sees of it, and what is left of the set
 
@@ -415,7 +360,7 @@ module _ (B : ℕ) where
   viewOf s e x room = viewBy (refusalOf s e x) (shown (accepted s e x)) (hideSet s) room
 
   view-is : (s : LineSet) (e : List ℕ) (room : ℕ) → view s e room ≡ viewOf s e (readEntry e) room
-  unfolding stepOf ofDesk
+  unfolding outcomeOf stepOf ofDesk
   view-is s e room = go (eqb (refusalOf s e (readEntry e)) 0) refl (leb (spaceOf (accepted s e (readEntry e) .sent)) room) refl
     where
       go : (t : Bool) → eqb (refusalOf s e (readEntry e)) 0 ≡ t → (u : Bool) → leb (spaceOf (accepted s e (readEntry e) .sent)) room ≡ u
@@ -495,11 +440,11 @@ module _ (B : ℕ) where
   unfolding onChannel happens
   number-shown s ch b n n′ o =
       let c = channelAt s ch in
-      let x = contextOf s c (holderPlace (c .holder)) in
+      let x = contextOf (s .desks) (s .size .desks) c (holderPlace (c .holder)) in
       place-shown s (placeIn s ch) c (happens (MobileOn b n) x c) (happens (MobileOn b n′) x c)
       (number-hidden B x b n n′ c (unheard (c .holder) o))
     where
-      unheard : (h : Holder) → OtherHolds B h → isIn B (mobileRecipients h (listenersOf s (channelAt s ch))) ≡ false
+      unheard : (h : Holder) → OtherHolds B h → isIn B (mobileRecipients h (listenersOf (s .desks) (s .size .desks) (channelAt s ch))) ≡ false
       unheard Nobody o = absurd o
       unheard (Held d) o = only-other B d o
 

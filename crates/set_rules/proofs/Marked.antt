@@ -15,13 +15,13 @@ use Rattle.set_rules.specs.Plan.{desksOk, desksIn, hasNumber, distinct, 
 use Rattle.set_rules.specs.Refusals.{firstOf, refusalOf}
 use Rattle.set_rules.specs.Records.{delivered, toEach, recordsOf, spaceOf}
 use Rattle.set_rules.specs.SetRules.{onChannel, sendsOf, onHandover, accepted}
-use Rattle.set_rules.specs.Feeds.{stepOf, run, after}
+use Rattle.set_rules.specs.Feeds.{outcomeOf, stepOf, run, after}
 use Rattle.set_rules.specs.Promises.{Listed, listingLines, Hold, cases}
 
 pub listed : Listed
-unfolding listingLines spelled onesIn digitsOf allDigits valueFrom bodyOk valuesIn bytesOf headerOk readTelegram telegramOf isIn capture handover happens placeOf runningFrom readEntry desksOk desksIn hasNumber distinct channelsOk channelsIn planOk setOf firstOf refusalOf delivered toEach recordsOf spaceOf onChannel sendsOf onHandover pick accepted stepOf run after
+unfolding listingLines spelled onesIn digitsOf allDigits valueFrom bodyOk valuesIn bytesOf headerOk readTelegram telegramOf isIn capture handover happens placeOf runningFrom readEntry desksOk desksIn hasNumber distinct channelsOk channelsIn planOk setOf firstOf refusalOf delivered toEach recordsOf spaceOf onChannel sendsOf onHandover pick accepted outcomeOf stepOf run after
 listed = refl
 
 pub entries-hold : Hold cases
-unfolding cases spelled onesIn digitsOf allDigits valueFrom bodyOk valuesIn bytesOf headerOk readTelegram telegramOf isIn capture handover happens placeOf runningFrom readEntry desksOk desksIn hasNumber distinct channelsOk channelsIn planOk setOf firstOf refusalOf delivered toEach recordsOf spaceOf onChannel sendsOf onHandover pick accepted stepOf run after
+unfolding cases spelled onesIn digitsOf allDigits valueFrom bodyOk valuesIn bytesOf headerOk readTelegram telegramOf isIn capture handover happens placeOf runningFrom readEntry desksOk desksIn hasNumber distinct channelsOk channelsIn planOk setOf firstOf refusalOf delivered toEach recordsOf spaceOf onChannel sendsOf onHandover pick accepted outcomeOf stepOf run after
 entries-hold = (refl, (refl, (refl, (refl, tt))))

@@ -29,9 +29,9 @@ use Rattle.channel.specs.declared.state.Send.{Send}
 use Rattle.set_rules.specs.State.{newSet, noDesk, noChannel, deskAt, channelsOf, placeIn, channelAt, timeTold, answered, withLink}
 use Rattle.set_rules.specs.Entries.{byte, word, readEntry, measured, bad, payload, payloadOk, sizeOk, telegramIn, planIn}
 use Rattle.set_rules.specs.Plan.{deskOk, desksOk, desksIn, channelsOk, channelsIn, deskCount, desksPart, channelCount, channelsPart, distinct, planOk, filled, setOf}
-use Rattle.set_rules.specs.Refusals.{Request, tellsTime, tellsState, asksChannel, foreign, askedIn, refusalOf}
+use Rattle.set_rules.specs.Refusals.{askedIn, refusalOf}
 use Rattle.set_rules.specs.Records.{Delivery, delivered}
-use Rattle.set_rules.specs.SetRules.{Effect, effect, telegramTo, contextOf, happensIn, nextsOf, sendsOf, onChannel, byHolder, onTick, onHandover, onPlan, onRequest, ways, timeTaken, answerTaken, numberIn, accepted}
+use Rattle.set_rules.specs.SetRules.{Effect, effect, telegramTo, contextOf, movedIn, nextsOf, sendsOf, onChannel, byHolder, onTick, onHandover, onPlan, onRequest, ways, timeTaken, answerTaken, numberIn, accepted}
 use Rattle.set_rules.specs.Feeds.{Item, stepOf, stepBy, after}
 use Rattle.set_rules.specs.Invariant.{NumberOk, ChannelOk, DeskOk, Each, SetOk}
 use Rattle.set_rules.specs.Promises.{AllRead, Readable, InRange}
@@ -39,7 +39,9 @@ use Rattle.set_rules.specs.declared.state.Link.{Link}
 use Rattle.set_rules.specs.declared.state.Desk.{Desk}
 use Rattle.set_rules.specs.declared.state.LineSet.{LineSet}
 use Rattle.set_rules.specs.declared.state.Entry.{Entry}
-use Rattle.set_rules.proofs.ByKind.{pick-each}
+use Rattle.set_rules.specs.declared.state.Request.{Request}
+use Rattle.set_rules.specs.declared.state.Request.the-variants.{TellsTime, TellsState, AsksChannel, Foreign}
+use Rattle.set_rules.proofs.ByKind.{_▹_, pick-each}
 use Rattle.set_rules.proofs.Answers.{refused, accepted-after}
 use Rattle.set_rules.proofs.Each.{each-at, each-set, each-take, each-drop, each-append, each-same}
 use Rattle.set_rules.proofs.Rows.{no-row}
@@ -101,19 +103,20 @@ module _ (s : LineSet) (ok : SetOk s) where
   unfolding onChannel
   on-ok ch d v h =
       let c = channelAt s ch in
-      let k = happens-ok (contextOf s c d) (own-ok d) c (at-ok ch) v h in
+      let k = happens-ok (contextOf (s .desks) (s .size .desks) c d) (own-ok d) c (at-ok ch) v h in
       record {
         set-ok = record { desks-ok = ok .desks-ok; channels-ok = each-set ChannelOk (s .channels) (placeIn s ch) _ (ok .channels-ok) (k .next-ok) };
         sent-ok = sent-reads (s .desks) (ok .desks-ok) (c .code) (at-ok ch .code-ok) _ (k .sends-ok);
       }
 
-  all-ok : (v : Event) → EventOk v → (cs : List Channel) → Each ChannelOk cs → Each ChannelOk (nextsOf s v cs) × AllRead (s .desks) (sendsOf s v cs)
+  all-ok : (v : Event) → EventOk v → (cs : List Channel) → Each ChannelOk cs → Each ChannelOk (nextsOf (s .desks) (s .size .desks) v cs) × AllRead (s .desks) (sendsOf (s .desks) (s .size .desks) v cs)
   unfolding nextsOf sendsOf
   all-ok v h [] o = (tt, tt)
   all-ok v h (c ∷ cs) o =
-      let k = happens-ok (contextOf s c (holderPlace (c .holder))) (own-ok (holderPlace (c .holder))) c (o .0) v h in
+      let k = happens-ok (contextOf (s .desks) (s .size .desks) c (holderPlace (c .holder))) (own-ok (holderPlace (c .holder))) c (o .0) v h in
       let r = all-ok v h cs (o .1) in
-      ((k .next-ok, r .0), read-append (s .desks) (delivered (c .code) (happensIn s v c .sends)) (sendsOf s v cs) (sent-reads (s .desks) (ok .desks-ok) (c .code) (o .0 .code-ok) (happensIn s v c .sends) (k .sends-ok)) (r .1))
+      let ss = movedIn (s .desks) (s .size .desks) v c .sends in
+      ((k .next-ok, r .0), read-append (s .desks) (delivered (c .code) ss) (sendsOf (s .desks) (s .size .desks) v cs) (sent-reads (s .desks) (ok .desks-ok) (c .code) (o .0 .code-ok) ss (k .sends-ok)) (r .1))
 
   planned-ok : Each ChannelOk (channelsOf s)
   planned-ok = each-take ChannelOk (s .size .channels) (s .channels) (ok .channels-ok)
@@ -123,7 +126,7 @@ module _ (s : LineSet) (ok : SetOk s) where
   tick-ok =
       let r = all-ok Tick tt (channelsOf s) planned-ok in
       record {
-        set-ok = record { desks-ok = ok .desks-ok; channels-ok = each-append ChannelOk (nextsOf s Tick (channelsOf s)) _ (r .0) (each-drop ChannelOk (s .size .channels) (s .channels) (ok .channels-ok)) };
+        set-ok = record { desks-ok = ok .desks-ok; channels-ok = each-append ChannelOk (nextsOf (s .desks) (s .size .desks) Tick (channelsOf s)) _ (r .0) (each-drop ChannelOk (s .size .channels) (s .channels) (ok .channels-ok)) };
         sent-ok = r .1;
       }
 
@@ -155,10 +158,10 @@ module _ (s : LineSet) (ok : SetOk s) where
   press-ok false = tt
 
   request-ok : (d : ℕ) (q : Request) → EffectOk (onRequest s d q)
-  request-ok d tellsTime = time-ok d
-  request-ok d (tellsState a) = answer-ok d a
-  request-ok d (asksChannel ch n o) = on-ok ch d _ (order-ok (eqb o 1) d)
-  request-ok d foreign = record { set-ok = ok; sent-ok = tt }
+  request-ok d TellsTime = time-ok d
+  request-ok d (TellsState a) = answer-ok d a
+  request-ok d (AsksChannel ch n o) = on-ok ch d _ (order-ok (eqb o 1) d)
+  request-ok d Foreign = record { set-ok = ok; sent-ok = tt }
 
 -- ---- a plan that keeps its rules
 
@@ -256,28 +259,16 @@ plan-kept s e x z k = go (planOk (planIn e)) (rw k at (no-row s e x z .row6-fail
 accepted-ok : (s : LineSet) → SetOk s → (e : List ℕ) (x : Entry) → AskedOk x → refusalOf s e x ≡ 0 → EffectOk (accepted s e x)
 unfolding accepted
 accepted-ok s ok e x a z =
-    pick-each EffectOk (x .kind) _ (ways s e x) (record { set-ok = ok; sent-ok = tt }) (
-      λ k. request-ok s ok (x .desk) (askedIn (readTelegram (telegramIn e))),
-      (
-        λ k. on-ok s ok (x .channel) _ _ (press-ok s ok (eqb (x .on) 1)),
-        (
-          λ k. on-ok s ok (x .channel) _ Cut tt,
-          (
-            λ k. on-ok s ok (x .channel) _ _ a,
-            (
-              λ k. on-ok s ok (x .channel) _ MobileOff tt,
-              (
-                λ k. tick-ok s ok,
-                (
-                  λ k. plan-ok (planIn e) (plan-kept s e x z k),
-                  (λ k. handover-ok s ok, tt),
-                ),
-              ),
-            ),
-          ),
-        ),
-      ),
-    )
+    pick-each EffectOk (x .kind) _ (ways s e x) (record { set-ok = ok; sent-ok = tt })
+    ((λ k. request-ok s ok (x .desk) (askedIn (readTelegram (telegramIn e))))
+    ▹ (λ k. on-ok s ok (x .channel) _ _ (press-ok s ok (eqb (x .on) 1)))
+    ▹ (λ k. on-ok s ok (x .channel) _ Cut tt)
+    ▹ (λ k. on-ok s ok (x .channel) _ _ a)
+    ▹ (λ k. on-ok s ok (x .channel) _ MobileOff tt)
+    ▹ (λ k. tick-ok s ok)
+    ▹ (λ k. plan-ok (planIn e) (plan-kept s e x z k))
+    ▹ (λ k. handover-ok s ok)
+    ▹ tt)
 
 step-ok : (s : LineSet) (i : Item) → SetOk s → SetOk (stepBy s i .after)
 step-ok s i ok = go (eqb (stepBy s i .refusal) 0) refl

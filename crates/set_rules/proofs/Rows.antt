@@ -10,7 +10,7 @@ use borrow.Author.Tests.{eq-eqb}
 use Rattle.telegram.specs.Telegram.{readTelegram}
 use Rattle.telegram.specs.declared.message.Reading.{Reading}
 use Rattle.set_rules.specs.Entries.{telegramIn}
-use Rattle.set_rules.specs.Refusals.{Test, row4, row6, row12, row14, row15, firstOf, refusalOf, table}
+use Rattle.set_rules.specs.Refusals.{Lookup, lookup, Test, askedIn, namedBy, row4, row6, row12, row14, row15, firstOf, refusalOf, table}
 use Rattle.set_rules.specs.Invariant.{Each}
 use Rattle.set_rules.specs.declared.state.LineSet.{LineSet}
 use Rattle.set_rules.specs.declared.state.Entry.{Entry}
@@ -20,15 +20,21 @@ abbrev Refuses : ℕ × Test → Type 0
 Refuses row = row .0 ≡ 0 → ⊥
 
 module _ (s : LineSet) (e : List ℕ) (x : Entry) where
-  abbrev Fails : ℕ × Test → Type 0
-  Fails row = (row .1) s e (readTelegram (telegramIn e)) x ≡ false
+  abbrev r : Reading
+  r = readTelegram (telegramIn e)
 
-  none-holds : (rows : List (ℕ × Test)) → Each Refuses rows → firstOf rows s e (readTelegram (telegramIn e)) x ≡ 0 → Each Fails rows
+  abbrev v : Lookup
+  v = lookup s (namedBy (askedIn r) x)
+
+  abbrev Fails : ℕ × Test → Type 0
+  Fails row = (row .1) v e r x ≡ false
+
+  none-holds : (rows : List (ℕ × Test)) → Each Refuses rows → firstOf rows v e r x ≡ 0 → Each Fails rows
   unfolding firstOf
   none-holds [] p z = tt
-  none-holds (row ∷ rows) p z = go ((row .1) s e (readTelegram (telegramIn e)) x) refl (none-holds rows (p .1))
+  none-holds (row ∷ rows) p z = go ((row .1) v e r x) refl (none-holds rows (p .1))
     where
-      go : (t : Bool) → (row .1) s e (readTelegram (telegramIn e)) x ≡ t → (firstOf rows s e (readTelegram (telegramIn e)) x ≡ 0 → Each Fails rows) → Each Fails (row ∷ rows)
+      go : (t : Bool) → (row .1) v e r x ≡ t → (firstOf rows v e r x ≡ 0 → Each Fails rows) → Each Fails (row ∷ rows)
       go true k rest = absurd (p .0 (rw k at z))
       go false k rest = (k, rest (rw k at z))
 
@@ -39,12 +45,12 @@ module _ (s : LineSet) (e : List ℕ) (x : Entry) where
   unfolding refusalOf
   rows-fail z = none-holds table numbered (go (eqb (x .refusal) 0) refl)
     where
-      go : (t : Bool) → eqb (x .refusal) 0 ≡ t → firstOf table s e (readTelegram (telegramIn e)) x ≡ 0
+      go : (t : Bool) → eqb (x .refusal) 0 ≡ t → firstOf table v e r x ≡ 0
       go true k = rw k at z
       go false k = absurd (false≢true (sym k ∙ eq-eqb _ 0 (rw k at z)))
 
   abbrev fails : Test → Type 0
-  fails row = row s e (readTelegram (telegramIn e)) x ≡ false
+  fails row = row v e r x ≡ false
 
   -- the rows that a proof goes by, by their numbers
   pub record NoRow : Type 0 where

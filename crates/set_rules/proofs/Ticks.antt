@@ -23,7 +23,7 @@ use Rattle.set_rules.specs.ByKind.{pick}
 use Rattle.set_rules.specs.Refusals.{firstOf, refusalOf}
 use Rattle.set_rules.specs.Records.{Delivery, delivered, recordsOf, spaceOf}
 use Rattle.set_rules.specs.SetRules.{Effect, contextOf, nextsOf, sendsOf, onChannel, byHolder, onTick, accepted}
-use Rattle.set_rules.specs.Feeds.{Outcome, Item, emit, stepOf, stepBy, run}
+use Rattle.set_rules.specs.Feeds.{Outcome, Item, emit, outcomeOf, stepOf, stepBy, run}
 use Rattle.set_rules.specs.Promises.{entryOf, ticks, AllAccepted, Ticked}
 use Rattle.set_rules.proofs.Answers.{accepted-after}
 use Rattle.set_rules.proofs.Rows.{no-row}
@@ -43,7 +43,7 @@ record Done (s : LineSet) (o : Outcome) : Type 0 where
   after-is : o .after ≡ onTick s .after
 
 tick-done : (s : LineSet) (room : ℕ) → s .planned ≡ true → stepOf s (entryOf 6 []) room .refusal ≡ 0 → Done s (stepOf s (entryOf 6 []) room)
-unfolding stepOf pick accepted readEntry onTick
+unfolding outcomeOf stepOf pick accepted readEntry onTick
 tick-done s room p z = go (leb (spaceOf (onTick s .sent)) room) refl
   where
     go : (u : Bool) → leb (spaceOf (onTick s .sent)) room ≡ u → Done s (stepOf s (entryOf 6 []) room)
@@ -80,7 +80,7 @@ ticking : (code entitled d n : ℕ) (k : Call) (rest : List Channel) (ds : List 
     ≡ replicate 9 []
     ++ ((delivered code (endOf 3 k) ++ [])
     ∷ replicate 119 []
-    ++ ((delivered code (freedSends (contextOf (setWith (quietly code entitled d k) rest ds n) (quietly code entitled d k) d) (quietly code entitled d k)) ++ []) ∷ []))
+    ++ ((delivered code (freedSends (contextOf ds n (quietly code entitled d k) d) (quietly code entitled d k)) ++ []) ∷ []))
 unfolding quietly sentBy onTick nextsOf sendsOf delivered happens tick tickIdle tickQuiet tickRelease
 ticking code entitled d n k rest ds = refl
 
@@ -135,12 +135,12 @@ ticked s c rest d one cs h a i k o z rooms l all =
     let s₁ = setWith q rest (s .desks) (s .size .desks) in
     let g : stepBy s i .after ≡ s₁ =
     f .1 ∙ ap (λ (t : LineSet). accepted t (i .entry) x .after) e ∙ let-go c rest (s .desks) (s .size .desks) d (i .entry) x h a k o m in
-    let w : freedSends (contextOf s₁ q d) q ≡ freedSends (contextOf s c d) c = rw h in
+    let w : freedSends (contextOf (s .desks) (s .size .desks) q d) q ≡ freedSends (contextOf (s .desks) (s .size .desks) c d) c = rw h in
     ap (λ (t : LineSet). map (λ (y : Outcome). y .bytes) (run t (ticks rooms))) g
     ∙ bytes-of rooms s₁ refl (rw g at all)
     ∙ ap (λ (j : ℕ). map (recordsOf (s .desks)) (sentBy j s₁)) l
     ∙ ap (map (recordsOf (s .desks))) (ticking (c .code) (c .entitled) d (s .size .desks) (c .call) rest (s .desks))
-    ∙ in-words (s .desks) (delivered (c .code) (endOf 3 (c .call))) (delivered (c .code) (freedSends (contextOf s₁ q d) q))
+    ∙ in-words (s .desks) (delivered (c .code) (endOf 3 (c .call))) (delivered (c .code) (freedSends (contextOf (s .desks) (s .size .desks) q d) q))
     ∙ ap
     (λ (n : List Send). replicate 9 [] ++ (recordsOf (s .desks) (delivered (c .code) (endOf 3 (c .call))) ∷ replicate 119 [] ++ (recordsOf (s .desks) (delivered (c .code) n) ∷ [])))
     w

@@ -23,14 +23,16 @@ use Rattle.channel.specs.declared.state.Event.the-variants.{Capture, Release, C
 use Rattle.set_rules.specs.State.{newSet, noChannel, channelsOf, placeIn, channelAt}
 use Rattle.set_rules.specs.Entries.{byte, readEntry, measured, bad, payload, payloadOk, sizeOk, telegramIn, planIn}
 use Rattle.set_rules.specs.Plan.{channelsIn, channelCount, channelsPart, setOf}
-use Rattle.set_rules.specs.Refusals.{Request, tellsTime, tellsState, asksChannel, foreign, askedIn, refusalOf}
+use Rattle.set_rules.specs.Refusals.{askedIn, refusalOf}
 use Rattle.set_rules.specs.SetRules.{Effect, contextOf, nextsOf, onChannel, onTick, onHandover, onPlan, onRequest, numberIn, ways, accepted}
 use Rattle.set_rules.specs.Feeds.{Item, stepBy, after}
 use Rattle.set_rules.specs.Invariant.{Timed, Each}
 use Rattle.set_rules.specs.Promises.{TimersRun}
 use Rattle.set_rules.specs.declared.state.LineSet.{LineSet}
 use Rattle.set_rules.specs.declared.state.Entry.{Entry}
-use Rattle.set_rules.proofs.ByKind.{pick-each}
+use Rattle.set_rules.specs.declared.state.Request.{Request}
+use Rattle.set_rules.specs.declared.state.Request.the-variants.{TellsTime, TellsState, AsksChannel, Foreign}
+use Rattle.set_rules.proofs.ByKind.{_▹_, pick-each}
 use Rattle.set_rules.proofs.Answers.{refused, accepted-after}
 use Rattle.set_rules.proofs.Each.{each-at, each-set, each-take, each-drop, each-append, each-same}
 use Rattle.set_rules.proofs.Rows.{no-row}
@@ -209,16 +211,16 @@ module _ (s : LineSet) (ok : SetTimed s) where
 
   on-timed : (ch d : ℕ) (v : Event) → Fits (channelAt s ch) v → SetTimed (onChannel s ch d v .after)
   unfolding onChannel
-  on-timed ch d v h = each-set Timed (s .channels) (placeIn s ch) _ ok (happens-timed (contextOf s (channelAt s ch) d) (channelAt s ch) (at-timed ch) v h)
+  on-timed ch d v h = each-set Timed (s .channels) (placeIn s ch) _ ok (happens-timed (contextOf (s .desks) (s .size .desks) (channelAt s ch) d) (channelAt s ch) (at-timed ch) v h)
 
-  nexts-timed : (cs : List Channel) → Each Timed cs → Each Timed (nextsOf s Tick cs)
+  nexts-timed : (cs : List Channel) → Each Timed cs → Each Timed (nextsOf (s .desks) (s .size .desks) Tick cs)
   unfolding nextsOf
   nexts-timed [] o = tt
-  nexts-timed (c ∷ cs) o = (happens-timed (contextOf s c (holderPlace (c .holder))) c (o .0) Tick tt, nexts-timed cs (o .1))
+  nexts-timed (c ∷ cs) o = (happens-timed (contextOf (s .desks) (s .size .desks) c (holderPlace (c .holder))) c (o .0) Tick tt, nexts-timed cs (o .1))
 
   set-tick-timed : SetTimed (onTick s .after)
   unfolding onTick
-  set-tick-timed = each-append Timed (nextsOf s Tick (channelsOf s)) _ (nexts-timed (channelsOf s) planned-timed) (each-drop Timed (s .size .channels) (s .channels) ok)
+  set-tick-timed = each-append Timed (nextsOf (s .desks) (s .size .desks) Tick (channelsOf s)) _ (nexts-timed (channelsOf s) planned-timed) (each-drop Timed (s .size .channels) (s .channels) ok)
 
   set-handover-timed : SetTimed (onHandover s .after)
   unfolding onHandover
@@ -229,10 +231,10 @@ module _ (s : LineSet) (ok : SetTimed s) where
   order-fits false d c = tt
 
   request-timed : (d : ℕ) (q : Request) → SetTimed (onRequest s d q .after)
-  request-timed d tellsTime = ok
-  request-timed d (tellsState a) = ok
-  request-timed d (asksChannel ch n o) = on-timed ch d _ (order-fits (eqb o 1) d (channelAt s ch))
-  request-timed d foreign = ok
+  request-timed d TellsTime = ok
+  request-timed d (TellsState a) = ok
+  request-timed d (AsksChannel ch n o) = on-timed ch d _ (order-fits (eqb o 1) d (channelAt s ch))
+  request-timed d Foreign = ok
 
 channels-timed : (n : ℕ) (b : List ℕ) → Each Timed (channelsIn n b)
 unfolding channelsIn
@@ -287,28 +289,16 @@ accepted-timed s ok e z =
     let x = readEntry e in
     let pressed : x .kind ≡ 2 → Fits (channelAt s (x .channel)) (cond (eqb (x .on) 1) PressOn PressOff) =
     λ k. let r = press-rows s e x k z in press-fits (x .on) (channelAt s (x .channel)) (on-small e) (r .0) (r .1) in
-    pick-each (λ f. SetTimed (f .after)) (x .kind) _ (ways s e x) ok (
-      λ k. request-timed s ok (x .desk) (askedIn (readTelegram (telegramIn e))),
-      (
-        λ k. on-timed s ok (x .channel) _ _ (pressed k),
-        (
-          λ k. on-timed s ok (x .channel) _ Cut tt,
-          (
-            λ k. on-timed s ok (x .channel) _ (MobileOn (x .base) (numberIn (x .number))) tt,
-            (
-              λ k. on-timed s ok (x .channel) _ MobileOff tt,
-              (
-                λ k. set-tick-timed s ok,
-                (
-                  λ k. plan-timed (planIn e),
-                  (λ k. set-handover-timed s ok, tt),
-                ),
-              ),
-            ),
-          ),
-        ),
-      ),
-    )
+    pick-each (λ f. SetTimed (f .after)) (x .kind) _ (ways s e x) ok
+    ((λ k. request-timed s ok (x .desk) (askedIn (readTelegram (telegramIn e))))
+    ▹ (λ k. on-timed s ok (x .channel) _ _ (pressed k))
+    ▹ (λ k. on-timed s ok (x .channel) _ Cut tt)
+    ▹ (λ k. on-timed s ok (x .channel) _ (MobileOn (x .base) (numberIn (x .number))) tt)
+    ▹ (λ k. on-timed s ok (x .channel) _ MobileOff tt)
+    ▹ (λ k. set-tick-timed s ok)
+    ▹ (λ k. plan-timed (planIn e))
+    ▹ (λ k. set-handover-timed s ok)
+    ▹ tt)
 
 step-timed : (s : LineSet) (i : Item) → SetTimed s → SetTimed (stepBy s i .after)
 step-timed s i ok = go (eqb (stepBy s i .refusal) 0) refl

@@ -19,7 +19,7 @@ use Rattle.set_rules.specs.Plan.{desksOk, desksIn, hasNumber, distinct, 
 use Rattle.set_rules.specs.Refusals.{firstOf, refusalOf}
 use Rattle.set_rules.specs.Records.{delivered, toEach, recordsOf, spaceOf}
 use Rattle.set_rules.specs.SetRules.{onChannel, accepted}
-use Rattle.set_rules.specs.Feeds.{Item, stepOf, ofDesk, views, Seen}
+use Rattle.set_rules.specs.Feeds.{Item, outcomeOf, stepOf, ofDesk, views, Seen}
 use Rattle.set_rules.specs.Promises.{entryOf, Speaks, same, talks, none, more, item, Renumbered}
 
 renumbered : Renumbered (entryOf 4 (7 ∷ 3 ∷ digitsOf 8 990007)) (entryOf 4 (7 ∷ 3 ∷ digitsOf 8 990008))
@@ -38,7 +38,7 @@ learnt : List Seen → ℕ
 learnt vs = getD (getD vs 6 (record { refusal = 0; count = 0; records = [] }) .records) 43 0
 
 pub witness : Speaks
-unfolding last learnt spelled onesIn digitsOf allDigits valueFrom bodyOk valuesIn bytesOf headerOk readTelegram telegramOf isIn capture mobileOn happens placeOf runningFrom readEntry desksOk desksIn hasNumber distinct channelsOk channelsIn planOk setOf firstOf refusalOf delivered toEach recordsOf spaceOf onChannel pick accepted stepOf ofDesk views
+unfolding last learnt spelled onesIn digitsOf allDigits valueFrom bodyOk valuesIn bytesOf headerOk readTelegram telegramOf isIn capture mobileOn happens placeOf runningFrom readEntry desksOk desksIn hasNumber distinct channelsOk channelsIn planOk setOf firstOf refusalOf delivered toEach recordsOf spaceOf onChannel pick accepted outcomeOf stepOf ofDesk views
 witness = record {
   related =
       more (same refl) refl

@@ -8,6 +8,7 @@ use Rattle.set_rules.specs.Entries.{readEntry, word}
 use Rattle.set_rules.specs.Refusals.{refusalOf}
 use Rattle.set_rules.specs.Records.{recordsOf, spaceOf}
 use Rattle.set_rules.specs.SetRules.{Effect, accepted}
+use Rattle.set_rules.specs.declared.state.Entry.{Entry}
 use Rattle.set_rules.specs.declared.state.LineSet.{LineSet}
 use Rattle.set_rules.specs.declared.state.Answer.{Answer}
 use Rattle.set_rules.specs.declared.state.Reply.{Reply}
@@ -37,12 +38,13 @@ emit s f room =
     (record { refusal = 0; count = spaceOf (f .sent); after = f .after; bytes = recordsOf (f .desks) (f .sent) })
     (refuse 16 s)
 
--- an entry of any bytes, before a set, with a buffer of so many bytes
+-- an entry x, read from the bytes e, before a set, with a buffer of so many bytes
+unfoldable pub outcomeOf : LineSet → List ℕ → Entry → ℕ → Outcome
+outcomeOf s e x room = cond (eqb (refusalOf s e x) 0) (emit s (accepted s e x) room) (refuse (refusalOf s e x) s)
+
+-- an entry of any bytes
 unfoldable pub stepOf : LineSet → List ℕ → ℕ → Outcome
-stepOf s e room =
-    cond (eqb (refusalOf s e (readEntry e)) 0)
-    (emit s (accepted s e (readEntry e)) room)
-    (refuse (refusalOf s e (readEntry e)) s)
+stepOf s e room = outcomeOf s e (readEntry e) room
 
 -- an entry with the length of its buffer
 pub record Item : Type 0 where

@@ -202,7 +202,7 @@ Ticked =
     → (i : Item) → readEntry (i .entry) .kind ≡ 2 → readEntry (i .entry) .on ≡ 0 → stepBy s i .refusal ≡ 0
     → (rooms : List ℕ) → length rooms ≡ 130 → AllAccepted (run (stepBy s i .after) (ticks rooms))
     → map (λ (o : Outcome). o .bytes) (run (stepBy s i .after) (ticks rooms))
-    ≡ replicate 9 [] ++ (recordsOf (s .desks) (delivered (c .code) (endOf 3 (c .call))) ∷ replicate 119 [] ++ (recordsOf (s .desks) (delivered (c .code) (freedSends (contextOf s c d) c)) ∷ []))
+    ≡ replicate 9 [] ++ (recordsOf (s .desks) (delivered (c .code) (endOf 3 (c .call))) ∷ replicate 119 [] ++ (recordsOf (s .desks) (delivered (c .code) (freedSends (contextOf (s .desks) (s .size .desks) c d) c)) ∷ []))
 
 -- All cases marked (p) in 01: those of the reader, those of entries, and the ticks (`AllMarked.marked`).
 abbrev pub Marked : Type 0

@@ -2,24 +2,40 @@
 use Prim.Native.Nat.{ℕ}
 use mathlib.Core.List.{List, [], _∷_}
 use mathlib.Core.Bool.{Bool, true, false, _&&_, _||_, not, cond}
-use lib.Dec.{eqb}
+use lib.Dec.{eqb, ltb}
+use lib.ListN.{getD}
 use Rattle.fields.specs.declared.digits.Digits.{Digits}
 use Rattle.fields.specs.declared.digits.Digits.the-variants.{Value, Malformed}
 use Rattle.telegram.specs.Telegram.{readTelegram, rowOf}
-use Rattle.telegram.specs.declared.message.Number.{Number}
 use Rattle.telegram.specs.declared.message.Message.{Message}
 use Rattle.telegram.specs.declared.message.Message.the-variants.{TimeNotice, OperationAnswer, TimeRequest, BaseArrival, OperationRequest, Call, CallerNotice, CaptureRequest, CaptureReply, CaptureState}
 use Rattle.telegram.specs.declared.message.Reading.{Reading}
 use Rattle.telegram.specs.declared.message.Reading.the-variants.{Telegram as Read, Refused}
 use Rattle.channel.specs.State.{isIn, heldBy, isPresent}
-use Rattle.set_rules.specs.State.{hasDesk, deskAt, hasChannel, channelAt}
+use Rattle.set_rules.specs.State.{noDesk, hasChannel, channelAt}
 use Rattle.set_rules.specs.Entries.{telegramIn, planIn}
 use Rattle.set_rules.specs.Plan.{planOk}
+use Rattle.channel.specs.declared.state.Channel.{Channel}
+use Rattle.set_rules.specs.declared.state.Desk.{Desk}
 use Rattle.set_rules.specs.declared.state.LineSet.{LineSet}
 use Rattle.set_rules.specs.declared.state.Entry.{Entry}
+use Rattle.set_rules.specs.declared.state.Request.{Request}
+use Rattle.set_rules.specs.declared.state.Request.the-variants.{TellsTime, TellsState, AsksChannel, Foreign}
+
+-- What the rows go by beside the entry: whether there is a plan, its desks, and the channel that the entry names, if the plan has
+-- it.
+pub record Lookup : Type 0 where
+  pub planned : Bool
+  pub desks : List Desk
+  pub count : ℕ
+  pub found : Bool
+  pub channel : Channel
+
+abbrev pub lookup : LineSet → ℕ → Lookup
+lookup s ch = record { planned = s .planned; desks = s .desks; count = s .size .desks; found = hasChannel s ch; channel = channelAt s ch }
 
 abbrev pub Test : Type 0
-Test = LineSet → List ℕ → Reading → Entry → Bool
+Test = Lookup → List ℕ → Reading → Entry → Bool
 
 -- ---- parts of the tests
 
@@ -47,121 +63,125 @@ abbrev pub bodyReads : Reading → Bool
 bodyReads (Read c m) = true
 bodyReads (Refused n c i) = false
 
--- what a desk asks by telegram: a case for each telegram that a desk sends, with what the set goes by
-pub data Request : Type 0 where
-  -- 550411: the time, which the set does not keep
-  tellsTime : Request
-  -- 550421: its state
-  tellsState : ℕ → Request
-  -- 550600: channel, number and order
-  asksChannel : ℕ → Number → ℕ → Request
-  -- a telegram that no desk sends
-  foreign : Request
-
+-- what a desk asks by telegram
 abbrev pub askedBy : Message → Request
-askedBy (TimeNotice m) = tellsTime
-askedBy (OperationAnswer m) = tellsState (m .state)
-askedBy TimeRequest = foreign
-askedBy (BaseArrival m) = foreign
-askedBy OperationRequest = foreign
-askedBy (Call m) = foreign
-askedBy (CallerNotice m) = foreign
-askedBy (CaptureRequest m) = asksChannel (m .channel) (m .number) (m .order)
-askedBy (CaptureReply m) = foreign
-askedBy (CaptureState m) = foreign
+askedBy (TimeNotice m) = TellsTime
+askedBy (OperationAnswer m) = TellsState (m .state)
+askedBy TimeRequest = Foreign
+askedBy (BaseArrival m) = Foreign
+askedBy OperationRequest = Foreign
+askedBy (Call m) = Foreign
+askedBy (CallerNotice m) = Foreign
+askedBy (CaptureRequest m) = AsksChannel (m .channel) (m .number) (m .order)
+askedBy (CaptureReply m) = Foreign
+askedBy (CaptureState m) = Foreign
 
 abbrev pub askedIn : Reading → Request
 askedIn (Read c m) = askedBy m
-askedIn (Refused n c i) = foreign
+askedIn (Refused n c i) = Foreign
 
 -- "In phase 1 only 550411 is taken", "In phase 2 only 550421", "550600, press and cut need" phase 3
 abbrev pub phaseOf : Request → ℕ
-phaseOf tellsTime = 1
-phaseOf (tellsState a) = 2
-phaseOf (asksChannel ch n o) = 3
-phaseOf foreign = 3
+phaseOf TellsTime = 1
+phaseOf (TellsState a) = 2
+phaseOf (AsksChannel ch n o) = 3
+phaseOf Foreign = 3
+
+-- the channel that an entry names; a telegram about the link names none
+abbrev pub channelIn : Request → ℕ
+channelIn TellsTime = 0
+channelIn (TellsState a) = 0
+channelIn (AsksChannel ch n o) = ch
+channelIn Foreign = 0
+
+abbrev pub namedBy : Request → Entry → ℕ
+namedBy q x = cond (isKind 1 x) (channelIn q) (x .channel)
 
 -- "channel not in the plan, or desk not entitled"
-abbrev pub mayUse : LineSet → ℕ → ℕ → Bool
-mayUse s d ch = hasChannel s ch && isIn d (channelAt s ch .entitled)
+abbrev pub mayUse : Lookup → ℕ → Bool
+mayUse v d = v .found && isIn d (v .channel .entitled)
 
-abbrev pub mayAsk : LineSet → ℕ → Request → Bool
-mayAsk s d tellsTime = true
-mayAsk s d (tellsState a) = true
-mayAsk s d (asksChannel ch n o) = mayUse s d ch
-mayAsk s d foreign = true
+abbrev pub mayAsk : Lookup → ℕ → Request → Bool
+mayAsk v d TellsTime = true
+mayAsk v d (TellsState a) = true
+mayAsk v d (AsksChannel ch n o) = mayUse v d
+mayAsk v d Foreign = true
 
 -- "550600 number not the desk's own"
 abbrev pub isOwn : ℕ → Request → Bool
-isOwn own tellsTime = true
-isOwn own (tellsState a) = true
-isOwn own (asksChannel ch n o) = eqb (n .digits) own
-isOwn own foreign = true
+isOwn own TellsTime = true
+isOwn own (TellsState a) = true
+isOwn own (AsksChannel ch n o) = eqb (n .digits) own
+isOwn own Foreign = true
 
 -- a mobile's number: "not 8 digits or the none-number"
 abbrev pub isCaller : Digits → Bool
 isCaller (Value v) = not (eqb v 0)
 isCaller Malformed = false
 
+-- the desk of an entry
+abbrev pub deskOf : Lookup → Entry → Desk
+deskOf v x = getD (v .desks) (x .desk) noDesk
+
 -- ---- the rows, for an entry x of bytes e and, if it is a telegram, what the reader makes of it
 
 -- "no plan, and kind is not 7"
 abbrev pub row4 : Test
-row4 s e r x = not (s .planned) && not (isKind 7 x)
+row4 v e r x = not (v .planned) && not (isKind 7 x)
 
 -- "plan present, and kind is 7"
 abbrev pub row5 : Test
-row5 s e r x = s .planned && isKind 7 x
+row5 v e r x = v .planned && isKind 7 x
 
 -- "plan breaks a rule above, its size included"
 abbrev pub row6 : Test
-row6 s e r x = isKind 7 x && not (planOk (planIn e))
+row6 v e r x = isKind 7 x && not (planOk (planIn e))
 
 -- "desk not in the plan"
 abbrev pub row7 : Test
-row7 s e r x = fromDesk x && not (hasDesk s (x .desk))
+row7 v e r x = fromDesk x && not (ltb (x .desk) (v .count))
 
 -- "under 16 bytes, not "DV", length field wrong, code not 0000 to 1023 or not the desk's"
 abbrev pub row8 : Test
-row8 s e r x = isKind 1 x && not (codeIs (deskAt s (x .desk) .code) r)
+row8 v e r x = isKind 1 x && not (codeIs (deskOf v x .code) r)
 
 -- "identifier not in the table, or not one a desk sends"
 abbrev pub row9 : Test
-row9 s e r x = isKind 1 x && not (identifierIs r)
+row9 v e r x = isKind 1 x && not (identifierIs r)
 
 -- "body size or a field's range wrong"
 abbrev pub row10 : Test
-row10 s e r x = isKind 1 x && not (bodyReads r)
+row10 v e r x = isKind 1 x && not (bodyReads r)
 
 -- "the desk's link is not in the phase needed"
 abbrev pub row11 : Test
-row11 s e r x = fromDesk x && not (eqb (deskAt s (x .desk) .link .phase) (cond (isKind 1 x) (phaseOf (askedIn r)) 3))
+row11 v e r x = fromDesk x && not (eqb (deskOf v x .link .phase) (cond (isKind 1 x) (phaseOf (askedIn r)) 3))
 
 -- "channel not in the plan, or desk not entitled"
 abbrev pub row12 : Test
-row12 s e r x =
-    cond (isKind 1 x) (not (mayAsk s (x .desk) (askedIn r)))
-    (cond (isKind 2 x || isKind 3 x) (not (mayUse s (x .desk) (x .channel)))
-    (cond (isKind 4 x || isKind 5 x) (not (hasChannel s (x .channel)))
+row12 v e r x =
+    cond (isKind 1 x) (not (mayAsk v (x .desk) (askedIn r)))
+    (cond (isKind 2 x || isKind 3 x) (not (mayUse v (x .desk)))
+    (cond (isKind 4 x || isKind 5 x) (not (v .found))
     false))
 
 -- "550600 number not the desk's own; mobile's number not 8 digits or the none-number"
 abbrev pub row13 : Test
-row13 s e r x =
-    cond (isKind 1 x) (not (isOwn (deskAt s (x .desk) .number .digits) (askedIn r)))
+row13 v e r x =
+    cond (isKind 1 x) (not (isOwn (deskOf v x .number .digits) (askedIn r)))
     (cond (isKind 4 x) (not (isCaller (x .number)))
     false)
 
 -- "press or cut by a desk that doesn't hold the channel"
 abbrev pub row14 : Test
-row14 s e r x = (isKind 2 x || isKind 3 x) && not (heldBy (x .desk) (channelAt s (x .channel) .holder))
+row14 v e r x = (isKind 2 x || isKind 3 x) && not (heldBy (x .desk) (v .channel .holder))
 
 -- "press on while on, off while off; mobile the same"
 abbrev pub row15 : Test
-row15 s e r x =
-    cond (isKind 2 x) (eqb (x .on) (cond (channelAt s (x .channel) .pressed) 1 0))
-    (cond (isKind 4 x) (isPresent (channelAt s (x .channel) .arrival))
-    (cond (isKind 5 x) (not (isPresent (channelAt s (x .channel) .arrival)))
+row15 v e r x =
+    cond (isKind 2 x) (eqb (x .on) (cond (v .channel .pressed) 1 0))
+    (cond (isKind 4 x) (isPresent (v .channel .arrival))
+    (cond (isKind 5 x) (not (isPresent (v .channel .arrival)))
     false))
 
 abbrev pub table : List (ℕ × Test)
@@ -170,10 +190,12 @@ table =
     ∷ (14, row14) ∷ (15, row15) ∷ []
 
 -- the first row that holds: "given exactly when no earlier one is"; 0 if none does
-unfoldable pub firstOf : List (ℕ × Test) → LineSet → List ℕ → Reading → Entry → ℕ
-firstOf [] s e r x = 0
-firstOf (row ∷ rows) s e r x = cond ((row .1) s e r x) (row .0) (firstOf rows s e r x)
+unfoldable pub firstOf : List (ℕ × Test) → Lookup → List ℕ → Reading → Entry → ℕ
+firstOf [] v e r x = 0
+firstOf (row ∷ rows) v e r x = cond ((row .1) v e r x) (row .0) (firstOf rows v e r x)
 
 -- the refusal of an entry but for 16, 0 if it is accepted
 unfoldable pub refusalOf : LineSet → List ℕ → Entry → ℕ
-refusalOf s e x = cond (eqb (x .refusal) 0) (firstOf table s e (readTelegram (telegramIn e)) x) (x .refusal)
+refusalOf s e x =
+    let r : Reading = readTelegram (telegramIn e) in
+    cond (eqb (x .refusal) 0) (firstOf table (lookup s (namedBy (askedIn r) x)) e r x) (x .refusal)

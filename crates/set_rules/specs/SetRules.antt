@@ -3,7 +3,7 @@ use Prim.Native.Nat.{ℕ}
 use mathlib.Core.List.{List, [], _∷_, _++_}
 use mathlib.Core.Bool.{Bool, true, false, cond}
 use lib.Dec.{eqb}
-use lib.ListN.{drop, set}
+use lib.ListN.{drop, getD, set}
 use Rattle.fields.specs.declared.digits.Digits.{Digits}
 use Rattle.fields.specs.declared.digits.Digits.the-variants.{Value, Malformed}
 use Rattle.telegram.specs.Telegram.{num, readTelegram}
@@ -16,15 +16,17 @@ use Rattle.line_rules.specs.Notices.{telegram}
 use Rattle.channel.specs.declared.state.Channel.{Channel}
 use Rattle.channel.specs.declared.state.Event.{Event}
 use Rattle.channel.specs.declared.state.Event.the-variants.{Capture, Release, Cut, PressOn, PressOff, MobileOn, MobileOff, Tick, Handover}
-use Rattle.set_rules.specs.State.{newSet, deskAt, channelsOf, placeIn, channelAt, listenersOf, withChannels, timeTold, answered, withLink}
+use Rattle.set_rules.specs.State.{newSet, noDesk, channelsOf, placeIn, channelAt, listenersOf, withChannels, timeTold, answered, withLink}
 use Rattle.set_rules.specs.Entries.{telegramIn, planIn}
 use Rattle.set_rules.specs.ByKind.{pick}
 use Rattle.set_rules.specs.Plan.{setOf}
-use Rattle.set_rules.specs.Refusals.{Request, tellsTime, tellsState, asksChannel, foreign, askedIn}
+use Rattle.set_rules.specs.Refusals.{askedIn}
 use Rattle.set_rules.specs.Records.{Delivery, delivered}
 use Rattle.set_rules.specs.declared.state.Desk.{Desk}
 use Rattle.set_rules.specs.declared.state.LineSet.{LineSet}
 use Rattle.set_rules.specs.declared.state.Entry.{Entry}
+use Rattle.set_rules.specs.declared.state.Request.{Request}
+use Rattle.set_rules.specs.declared.state.Request.the-variants.{TellsTime, TellsState, AsksChannel, Foreign}
 
 -- the set after, what is sent, and the desks whose codes the records bear
 pub record Effect : Type 0 where
@@ -51,40 +53,49 @@ answerTaken s d state = effect s (withLink d (answered state) s) []
 
 -- ---- channels
 
--- the rule's context: d is the desk that holds the channel or asks for it
-abbrev pub contextOf : LineSet → Channel → ℕ → Context
-contextOf s c d = record { listeners = listenersOf s c; own = deskAt s d .number }
+-- the rule's context, by the desks and how many of them the plan has; d is the desk that holds the channel or asks for it
+abbrev pub contextOf : List Desk → ℕ → Channel → ℕ → Context
+contextOf ds n c d = record { listeners = listenersOf ds n c; own = getD ds d noDesk .number }
+
+abbrev pub movedBy : List Desk → ℕ → ℕ → Event → Channel → Step
+movedBy ds n d v c = happens v (contextOf ds n c d) c
 
 -- an event on one channel, by its code
 unfoldable pub onChannel : LineSet → ℕ → ℕ → Event → Effect
 onChannel s ch d v =
     effect s
-    (withChannels (set (s .channels) (placeIn s ch) (happens v (contextOf s (channelAt s ch) d) (channelAt s ch) .next)) s)
-    (delivered (channelAt s ch .code) (happens v (contextOf s (channelAt s ch) d) (channelAt s ch) .sends))
+    (withChannels (set (s .channels) (placeIn s ch) (movedBy (s .desks) (s .size .desks) d v (channelAt s ch) .next)) s)
+    (delivered (channelAt s ch .code) (movedBy (s .desks) (s .size .desks) d v (channelAt s ch) .sends))
 
 -- an event by the holder, if there is one
 abbrev pub byHolder : LineSet → ℕ → Event → Effect
 byHolder s ch v = onChannel s ch (holderPlace (channelAt s ch .holder)) v
 
+abbrev pub movedIn : List Desk → ℕ → Event → Channel → Step
+movedIn ds n v c = movedBy ds n (holderPlace (c .holder)) v c
+
+abbrev pub sentIn : List Desk → ℕ → Event → Channel → List Delivery
+sentIn ds n v c = delivered (c .code) (movedIn ds n v c .sends)
+
 -- an event on every channel of the plan, in its order
-abbrev pub happensIn : LineSet → Event → Channel → Step
-happensIn s v c = happens v (contextOf s c (holderPlace (c .holder))) c
+unfoldable pub nextsOf : List Desk → ℕ → Event → List Channel → List Channel
+nextsOf ds n v [] = []
+nextsOf ds n v (c ∷ cs) = movedIn ds n v c .next ∷ nextsOf ds n v cs
 
-unfoldable pub nextsOf : LineSet → Event → List Channel → List Channel
-nextsOf s v [] = []
-nextsOf s v (c ∷ cs) = happensIn s v c .next ∷ nextsOf s v cs
-
-unfoldable pub sendsOf : LineSet → Event → List Channel → List Delivery
-sendsOf s v [] = []
-sendsOf s v (c ∷ cs) = delivered (c .code) (happensIn s v c .sends) ++ sendsOf s v cs
+unfoldable pub sendsOf : List Desk → ℕ → Event → List Channel → List Delivery
+sendsOf ds n v [] = []
+sendsOf ds n v (c ∷ cs) = sentIn ds n v c ++ sendsOf ds n v cs
 
 -- "Tick, channels in plan order"
 unfoldable pub onTick : LineSet → Effect
-onTick s = effect s (withChannels (nextsOf s Tick (channelsOf s) ++ drop (s .size .channels) (s .channels)) s) (sendsOf s Tick (channelsOf s))
+onTick s =
+    effect s
+    (withChannels (nextsOf (s .desks) (s .size .desks) Tick (channelsOf s) ++ drop (s .size .channels) (s .channels)) s)
+    (sendsOf (s .desks) (s .size .desks) Tick (channelsOf s))
 
 -- "Handover, per channel in plan order .. Then the set is a new one, without plan."
 unfoldable pub onHandover : LineSet → Effect
-onHandover s = effect s newSet (sendsOf s Handover (channelsOf s))
+onHandover s = effect s newSet (sendsOf (s .desks) (s .size .desks) Handover (channelsOf s))
 
 -- ---- entries
 
@@ -94,10 +105,10 @@ onPlan p = effect (setOf p) (setOf p) (telegramTo (firstDesks (setOf p .size .de
 
 -- what a desk's telegram does; a 550600 has order 1 to capture and 0 to release
 abbrev pub onRequest : LineSet → ℕ → Request → Effect
-onRequest s d tellsTime = timeTaken s d
-onRequest s d (tellsState a) = answerTaken s d a
-onRequest s d (asksChannel ch n o) = onChannel s ch d (cond (eqb o 1) (Capture d) (Release d))
-onRequest s d foreign = effect s s []
+onRequest s d TellsTime = timeTaken s d
+onRequest s d (TellsState a) = answerTaken s d a
+onRequest s d (AsksChannel ch n o) = onChannel s ch d (cond (eqb o 1) (Capture d) (Release d))
+onRequest s d Foreign = effect s s []
 
 abbrev pub numberIn : Digits → Number
 numberIn (Value v) = num v

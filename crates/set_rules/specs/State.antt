@@ -72,9 +72,9 @@ unfoldable pub runningFrom : ℕ → ℕ → List Desk → ℕ
 runningFrom d m [] = 0
 runningFrom d m (k ∷ ks) = cond (isRunning k && isIn d m) (only d) 0 + runningFrom (suc d) m ks
 
--- "E is the set of running entitled desks"
-abbrev pub listenersOf : LineSet → Channel → ℕ
-listenersOf s c = runningFrom 0 (c .entitled) (take (s .size .desks) (s .desks))
+-- "E is the set of running entitled desks", by the desks and how many of them the plan has
+abbrev pub listenersOf : List Desk → ℕ → Channel → ℕ
+listenersOf ds n c = runningFrom 0 (c .entitled) (take n ds)
 
 -- ---- a set with one part changed
 
@@ -88,5 +88,8 @@ withChannels cs s = record { channels = cs; desks = s .desks; size = s .size; pl
 abbrev pub linked : (Link → Link) → Desk → Desk
 linked f k = record { code = k .code; number = k .number; link = f (k .link) }
 
+abbrev pub linkedAt : ℕ → (Link → Link) → List Desk → List Desk
+linkedAt d f ds = set ds d (linked f (getD ds d noDesk))
+
 abbrev pub withLink : ℕ → (Link → Link) → LineSet → LineSet
-withLink d f s = withDesks (set (s .desks) d (linked f (deskAt s d))) s
+withLink d f s = withDesks (linkedAt d f (s .desks)) s

@@ -87,6 +87,24 @@ pub struct Entry {
     pub number: Digits,
 }
 
+// What a desk asks by telegram: a case for each telegram that a desk sends, with what the set goes by.
+pub enum Request {
+    // 550411: the time, which the set does not keep.
+    TellsTime,
+    // 550421: whether the desk operates.
+    TellsState {
+        state: u32,
+    },
+    // 550600: order 1 captures, 0 releases.
+    AsksChannel {
+        channel: u32,
+        number: Number,
+        order: u32,
+    },
+    // A telegram that no desk sends.
+    Foreign,
+}
+
 // The answer to an entry: the set after it, the bytes written, and the refusal number, 0 if it was accepted.
 pub struct Answer {
     pub set: LineSet,

@@ -1,28 +1,33 @@
 -- `changes::change::answered` meets its contract: nothing is sent, and there is always room for it.
 -- Assumes nothing.
 use mathlib.Core.List.{List}
-use mathlib.Core.Path.{sym, ap, _∙_}
+use mathlib.Core.Path.{_≡_, sym, ap, _∙_}
 use native.Mathlib.Omega.{arith}
 use denote.Ref.{now}
+use lib.ListN.{set}
 use Rattle.records.proofs.Writing.{written-none}
-use Rattle.set_rules.specs.State.{answered}
+use Rattle.set_rules.specs.State.{answered, linkedAt, withDesks, withChannels}
 use Rattle.set_rules.specs.Records.{recordsOf, spaceOf}
+use Rattle.set_rules.specs.SetRules.{answerTaken}
 use Rattle.set_rules.specs.declared.state.Desk.{Desk}
+use Rattle.set_rules.specs.declared.state.LineSet.{LineSet}
 use Rattle.set_rules.specs.declared.state.Link.{Link}
-use Rattle.changes.specs.Changes.{linkedAt, answerIn}
-use Rattle.changes.proofs.Changing.{change, emitted-in}
+use Rattle.changes.specs.Changes.{setWith}
+use Rattle.changes.proofs.Changing.{done, stored-back, emitted}
 use borrow.Author.Needs.{needs}
 use Rattle.changes.proofs.change.answered.Statement.{statement}
 use Rattle.changes.proofs.change.answered.Tie as tie
 
 returns : tie.Need-returns
 unfolding spaceOf recordsOf
-returns c =
-    let st = c .before .before .before .before in
-    let a = st .args in
-    let l = c .before .answered .ensures ∙ ap (λ (k : Desk). answered (a .state) (k .link)) (c .before .before .desk-at .ensures) in
-    emitted-in (a .desks) (a .c) (answerIn (a .desks) (a .d) (a .state) (a .c)) (now (a .buffer)) (omega arith) tt (sym (written-none _ _))
-    (ap (λ (ds : List Desk). change (a .c) ds 0) (c .linked .ensures ∙ ap (λ (k : Link). linkedAt (a .d) (λ (j : Link). k) (a .desks)) l))
+returns c = λ n ch found planned cs k place w.
+    let a = c .before .before .before .before .args in
+    let b = now (a .buffer) in
+    let s = setWith planned (a .desks) n cs k in
+    let l = c .before .answered .ensures ∙ ap (λ (j : Desk). answered (a .state) (j .link)) (c .before .before .desk-at .ensures) in
+    emitted s (answerTaken s (a .d) (a .state)) b (omega arith) tt (sym (written-none _ _))
+    (ap (λ (ds : List Desk). done (withDesks ds (withChannels (set cs place (a .c)) s)) 0) (c .linked .ensures ∙ ap (λ (j : Link). linkedAt (a .d) (λ (i : Link). j) (a .desks)) l)
+    ∙ ap (λ (t : LineSet). done (withDesks (linkedAt (a .d) (answered (a .state)) (a .desks)) t) 0) (stored-back s place (a .c) (w .at)))
 
 pub answered-spec : {M : Type 1} → statement M
 answered-spec = tie.close (tie.spec (λ c κs. search needs) (λ c κs. search needs) (λ c κs. search needs) returns)

@@ -1,46 +1,50 @@
 -- `changes::change::line` meets its contract: it is judged, and then happens on its channel.
 -- Assumes nothing.
 use Prim.Native.Nat.{ℕ}
-use mathlib.Core.Path.{_≡_, sym, ap, ap₂, _∙_}
-use lib.Dec.{ltb}
-use lib.ListN.{length}
+use mathlib.Core.Bool.{Bool, true}
+use mathlib.Core.List.{List, []}
+use mathlib.Core.Path.{_≡_, refl, sym, ap, ap₂, subst, _∙_}
+use native.Mathlib.Omega.{arith}
 use denote.Ref.{now}
+use lib.ListN.{length}
 use Rattle.channel.specs.State.{holderPlace}
+use Rattle.channel.specs.declared.state.Channel.{Channel}
 use Rattle.channel.specs.declared.state.Event.{Event}
+use Rattle.set_rules.specs.SetRules.{Effect, onChannel}
+use Rattle.set_rules.specs.Feeds.{emit}
 use Rattle.set_rules.specs.declared.state.Desk.{Desk}
 use Rattle.changes.specs.Judging.{lineRefusal}
-use Rattle.changes.specs.Changes.{Move, eventOf, unchanged, onOne, lineRefusalIn, lineIn}
-use Rattle.changes.proofs.Changing.{judged-bad-in, judged-good-in, makes-by}
+use Rattle.changes.specs.Changes.{setWith, Stands, eventOf}
+use Rattle.changes.proofs.Changing.{gives-as, refused}
+use Rattle.changes.proofs.Rules.{outcome-refused, line-refusal, line-found, line-rule}
 use borrow.Author.Needs.{needs}
 use Rattle.changes.proofs.change.line.Statement.{statement}
 use Rattle.changes.proofs.change.line.Tie as tie
 
 returns : tie.Need-returns
-unfolding lineIn
-returns c =
-    let st = c .before .before .before .before .before .before in
-    let a = st .args in
-    let x = a .x in
-    let m : ℕ = lineRefusalIn (a .desks) (a .n) x (a .found) (a .c) in
-    let f : Move = onOne (a .desks) (a .n) (holderPlace (a .c .holder)) (eventOf x) (a .c) in
+returns c = λ planned cs k place e w.
+    let a = c .before .before .before .before .before .args in
     let b = now (a .buffer) in
-    let n : c .before .before .judge-line .result ≡ m =
-    c .before .before .judge-line .ensures ∙ ap (λ (k : Desk). lineRefusal x (ltb (x .desk) (a .n)) (k .link .phase) (a .found) (a .c)) (c .before .before .before .before .desk-at .ensures) in
-    judged-bad-in (a .desks) (a .c) f b m (λ z. c .before .if1 .taken (n ∙ z)) (c .refuse .ensures ∙ ap (λ (k : ℕ). unchanged (a .desks) (a .c) k) n)
+    let s = setWith planned (a .desks) (a .n) cs k in
+    let m = c .before .before .judge-line .ensures ∙ ap (λ (j : Desk). lineRefusal (a .x) (j .link .phase) (a .found) (a .c)) (c .before .before .before .desk-at .ensures) in
+    gives-as (outcome-refused s e (a .x) (length b) _ (line-refusal planned (a .desks) (a .n) cs k e (a .x) place (a .found) (a .c) w ∙ sym m) (c .before .if1 .taken))
+    (refused s place (a .c) (w .stands .at) b _ (c .refuse .ensures))
 
 returns-2 : tie.Need-returns-2
-unfolding lineIn
-returns-2 c =
-    let st = c .before .before .before .before .before .before .before .before .before .before .before in
-    let a = st .args in
+returns-2 c = λ planned cs k place e w.
+    let a = c .before .before .before .before .before .before .before .before .before .before .args in
     let x = a .x in
-    let m : ℕ = lineRefusalIn (a .desks) (a .n) x (a .found) (a .c) in
-    let f : Move = onOne (a .desks) (a .n) (holderPlace (a .c .holder)) (eventOf x) (a .c) in
     let b = now (a .buffer) in
-    let n : c .before .before .before .before .before .before .before .judge-line .result ≡ m =
-    c .before .before .before .before .before .before .before .judge-line .ensures ∙ ap (λ (k : Desk). lineRefusal x (ltb (x .desk) (a .n)) (k .link .phase) (a .found) (a .c)) (c .before .before .before .before .before .before .before .before .before .desk-at .ensures) in
-    let e = ap₂ (λ (d : ℕ) (v : Event). onOne (a .desks) (a .n) d v (a .c)) (c .before .before .before .before .before .holder-place .ensures) (c .before .before .before .before .event-of .ensures) in
-    judged-good-in (a .desks) (a .c) f b m (sym n ∙ c .before .before .before .before .before .before .if1 .left) (makes-by (a .desks) (a .c) (length b) e (c .before .before .on-channel .ensures))
+    let s = setWith planned (a .desks) (a .n) cs k in
+    let m = c .before .before .before .before .before .before .before .judge-line .ensures ∙ ap (λ (j : Desk). lineRefusal x (j .link .phase) (a .found) (a .c)) (c .before .before .before .before .before .before .before .before .desk-at .ensures) in
+    let z = sym m ∙ c .before .before .before .before .before .before .if1 .left in
+    let stands : Stands s (x .channel) place true (a .c) =
+    subst (λ (t : Bool). Stands s (x .channel) place t (a .c)) (line-found planned (a .desks) (a .n) cs k e x place (a .found) (a .c) (a .found) z) (w .stands) in
+    let f : onChannel s (x .channel) (c .before .before .before .before .before .holder-place .result) (c .before .before .before .before .event-of .result) ≡ onChannel s (x .channel) (holderPlace (a .c .holder)) (eventOf x) =
+    ap₂ (λ (d : ℕ) (v : Event). onChannel s (x .channel) d v) (c .before .before .before .before .before .holder-place .ensures) (c .before .before .before .before .event-of .ensures) in
+    let g = ap (λ (y : Channel). onChannel s (x .channel) (holderPlace (y .holder)) (eventOf x)) (stands .channel-is refl) in
+    gives-as (ap (λ (h : Effect). emit s h (length b)) (f ∙ g) ∙ line-rule planned (a .desks) (a .n) cs k e x place (a .found) (a .c) (length b) w z)
+    (c .before .before .on-channel .ensures (x .channel) planned cs k place stands)
 
 pub line-spec : {M : Type 1} → statement M
 line-spec =

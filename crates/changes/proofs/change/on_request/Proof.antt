@@ -1,72 +1,97 @@
--- `changes::change::on_request` meets its contract: it is judged, and then goes by its identifier.
+-- `changes::change::on_request` meets its contract: it is judged, and then goes by what is asked.
 -- Assumes nothing.
 use Prim.Native.Nat.{ℕ}
-use mathlib.Core.Path.{_≡_, sym, ap, _∙_}
-use lib.ListN.{length, getD}
+use mathlib.Core.Bool.{Bool, true}
+use mathlib.Core.List.{List, []}
+use mathlib.Core.Path.{_≡_, refl, sym, ap, ap₂, subst, _∙_}
+use native.Mathlib.Omega.{arith}
 use denote.Ref.{now}
+use lib.ListN.{length}
 use Rattle.channel.specs.declared.state.Event.{Event}
-use Rattle.set_rules.specs.State.{noDesk}
+use Rattle.records.proofs.Writing.{written-none}
+use Rattle.set_rules.specs.Records.{recordsOf, spaceOf}
+use Rattle.set_rules.specs.SetRules.{Effect, effect, onChannel, onRequest}
+use Rattle.set_rules.specs.Feeds.{emit}
 use Rattle.set_rules.specs.declared.state.Desk.{Desk}
+use Rattle.set_rules.specs.declared.state.LineSet.{LineSet}
+use Rattle.set_rules.specs.declared.state.Request.{Request}
 use Rattle.changes.specs.Judging.{requestRefusal}
-use Rattle.changes.specs.Changes.{Move, unchanged, onOne, requestMove, requestOn}
-use Rattle.changes.proofs.Changing.{judged-bad-in, judged-good-in, makes-by, by-time, by-answer, by-order}
+use Rattle.changes.specs.Changes.{setWith, stored}
+use Rattle.changes.specs.declared.change.Change.{Change}
+use Rattle.changes.proofs.Changing.{done, gives-as, stored-back, refused, emitted}
+use Rattle.changes.proofs.Rules.{outcome-refused, request-refusal, request-rule, asked-found}
 use borrow.Author.Needs.{needs}
 use Rattle.changes.proofs.change.on_request.Statement.{statement}
 use Rattle.changes.proofs.change.on_request.Tie as tie
 
 returns : tie.Need-returns
-unfolding requestOn
-returns c =
-    let st = c .before .before .before .before .before in
-    let a = st .args in
-    let q = a .q in
-    let m : ℕ = requestRefusal q (a .d) (getD (a .desks) (a .d) noDesk) (a .found) (a .c) in
+returns c = λ planned cs k place e w.
+    let a = c .before .before .before .before .before .args in
+    let x = a .x in
+    let q = a .request in
     let b = now (a .buffer) in
-    let f : Move = requestMove (a .desks) (a .n) (a .d) q (a .c) in
-    let n : c .before .before .judge-request .result ≡ m = c .before .before .judge-request .ensures ∙ ap (λ (k : Desk). requestRefusal q (a .d) k (a .found) (a .c)) (c .before .before .before .desk-at .ensures) in
-    judged-bad-in (a .desks) (a .c) f b m (λ z. c .before .if1 .taken (n ∙ z)) (c .refuse .ensures ∙ ap (λ (k : ℕ). unchanged (a .desks) (a .c) k) n)
+    let s = setWith planned (a .desks) (a .n) cs k in
+    let m = c .before .before .judge-request .ensures ∙ ap (λ (i : Desk). requestRefusal q (x .desk) i (a .found) (a .c)) (c .before .before .before .desk-at .ensures) in
+    gives-as (outcome-refused s e x (length b) _ (request-refusal planned (a .desks) (a .n) cs k e x place (a .found) (a .c) q w ∙ sym m) (c .before .if1 .taken))
+    (refused s place (a .c) (w .stands .at) b _ (c .refuse .ensures))
 
 returns-2 : tie.Need-returns-2
-unfolding requestOn
-returns-2 c =
-    let st = c .before .before .before .before .before .before .before .before .before in
-    let a = st .args in
-    let q = a .q in
-    let m : ℕ = requestRefusal q (a .d) (getD (a .desks) (a .d) noDesk) (a .found) (a .c) in
+returns-2 c = λ planned cs k place e w.
+    let a = c .before .before .before .before .before .before .before .before .before .before .args in
+    let x = a .x in
+    let q = a .request in
     let b = now (a .buffer) in
-    let f : Move = requestMove (a .desks) (a .n) (a .d) q (a .c) in
-    let n : c .before .before .before .before .before .before .judge-request .result ≡ m = c .before .before .before .before .before .before .judge-request .ensures ∙ ap (λ (k : Desk). requestRefusal q (a .d) k (a .found) (a .c)) (c .before .before .before .before .before .before .before .desk-at .ensures) in
-    judged-good-in (a .desks) (a .c) f b m (sym n ∙ c .before .before .before .before .before .if1 .left) (makes-by (a .desks) (a .c) (length b) (by-time (a .desks) (a .n) (a .d) q (a .c) (c .before .before .before .before .match .keys1)) (c .before .before .time-told .ensures))
+    let s = setWith planned (a .desks) (a .n) cs k in
+    let m = c .before .before .before .before .before .before .before .judge-request .ensures ∙ ap (λ (i : Desk). requestRefusal q (x .desk) i (a .found) (a .c)) (c .before .before .before .before .before .before .before .before .desk-at .ensures) in
+    let z = sym m ∙ c .before .before .before .before .before .before .if1 .left in
+    gives-as (ap (λ (i : Request). emit s (onRequest s (x .desk) i) (length b)) (sym (c .before .before .before .before .enum-told .given .1)) ∙ request-rule planned (a .desks) (a .n) cs k e x place (a .found) (a .c) (length b) q w z)
+    (c .before .before .time-told .ensures (a .n) _ (a .found) planned cs k place (w .stands))
 
 returns-3 : tie.Need-returns-3
-unfolding requestOn
-returns-3 c =
-    let st = c .before .before .before .before .before .before .before .before .before in
-    let a = st .args in
-    let q = a .q in
-    let m : ℕ = requestRefusal q (a .d) (getD (a .desks) (a .d) noDesk) (a .found) (a .c) in
+returns-3 c = λ planned cs k place e w.
+    let a = c .before .before .before .before .before .before .before .before .before .before .before .args in
+    let x = a .x in
+    let q = a .request in
     let b = now (a .buffer) in
-    let f : Move = requestMove (a .desks) (a .n) (a .d) q (a .c) in
-    let n : c .before .before .before .before .before .before .judge-request .result ≡ m = c .before .before .before .before .before .before .judge-request .ensures ∙ ap (λ (k : Desk). requestRefusal q (a .d) k (a .found) (a .c)) (c .before .before .before .before .before .before .before .desk-at .ensures) in
-    judged-good-in (a .desks) (a .c) f b m (sym n ∙ c .before .before .before .before .before .if1 .left) (makes-by (a .desks) (a .c) (length b) (by-answer (a .desks) (a .n) (a .d) q (a .c) (c .before .before .before .before .match .keys2)) (c .before .before .answered .ensures))
+    let s = setWith planned (a .desks) (a .n) cs k in
+    let m = c .before .before .before .before .before .before .before .before .judge-request .ensures ∙ ap (λ (i : Desk). requestRefusal q (x .desk) i (a .found) (a .c)) (c .before .before .before .before .before .before .before .before .before .desk-at .ensures) in
+    let z = sym m ∙ c .before .before .before .before .before .before .before .if1 .left in
+    gives-as (ap (λ (i : Request). emit s (onRequest s (x .desk) i) (length b)) (sym (c .before .before .before .before .before .request .given .1)) ∙ request-rule planned (a .desks) (a .n) cs k e x place (a .found) (a .c) (length b) q w z)
+    (c .before .before .answered .ensures (a .n) _ (a .found) planned cs k place (w .stands))
 
 returns-4 : tie.Need-returns-4
-unfolding requestOn
-returns-4 c =
-    let st = c .before .before .before .before .before .before .before .before .before .before in
-    let a = st .args in
-    let q = a .q in
-    let m : ℕ = requestRefusal q (a .d) (getD (a .desks) (a .d) noDesk) (a .found) (a .c) in
+returns-4 c = λ planned cs k place e w.
+    let a = c .before .before .before .before .before .before .before .before .before .before .before .before .args in
+    let x = a .x in
+    let q = a .request in
     let b = now (a .buffer) in
-    let f : Move = requestMove (a .desks) (a .n) (a .d) q (a .c) in
-    let n : c .before .before .before .before .before .before .before .judge-request .result ≡ m = c .before .before .before .before .before .before .before .judge-request .ensures ∙ ap (λ (k : Desk). requestRefusal q (a .d) k (a .found) (a .c)) (c .before .before .before .before .before .before .before .before .desk-at .ensures) in
-    let e = ap (λ (v : Event). onOne (a .desks) (a .n) (a .d) v (a .c)) (c .before .before .before .before .ordered .ensures) ∙ by-order (a .desks) (a .n) (a .d) q (a .c) (c .before .before .before .before .before .match .rest .0 .1) (c .before .before .before .before .before .match .rest .1) in
-    judged-good-in (a .desks) (a .c) f b m (sym n ∙ c .before .before .before .before .before .before .if1 .left) (makes-by (a .desks) (a .c) (length b) e (c .before .before .on-channel .ensures))
+    let s = setWith planned (a .desks) (a .n) cs k in
+    let m = c .before .before .before .before .before .before .before .before .before .judge-request .ensures ∙ ap (λ (i : Desk). requestRefusal q (x .desk) i (a .found) (a .c)) (c .before .before .before .before .before .before .before .before .before .before .desk-at .ensures) in
+    let z = sym m ∙ c .before .before .before .before .before .before .before .before .if1 .left in
+    let stands = asked-found planned (a .desks) (a .n) cs k e x place (a .found) (a .c) q _ _ _ (c .before .before .before .before .before .before .request2 .given .1) w z in
+    gives-as (ap (λ (v : Event). emit s (onChannel s (c .before .before .before .before .before .before .request2 .given .0 .0) (x .desk) v) (length b)) (c .before .before .before .before .ordered .ensures) ∙ ap (λ (i : Request). emit s (onRequest s (x .desk) i) (length b)) (sym (c .before .before .before .before .before .before .request2 .given .1)) ∙ request-rule planned (a .desks) (a .n) cs k e x place (a .found) (a .c) (length b) q w z)
+    (c .before .before .on-channel .ensures (c .before .before .before .before .before .before .request2 .given .0 .0) planned cs k place stands)
+
+-- a telegram that no desk sends does nothing
+returns-5 : tie.Need-returns-5
+unfolding spaceOf recordsOf
+returns-5 c = λ planned cs k place e w.
+    let a = c .before .before .before .before .before .before .before .args in
+    let x = a .x in
+    let q = a .request in
+    let b = now (a .buffer) in
+    let s = setWith planned (a .desks) (a .n) cs k in
+    let m = c .before .before .before .before .judge-request .ensures ∙ ap (λ (i : Desk). requestRefusal q (x .desk) i (a .found) (a .c)) (c .before .before .before .before .before .desk-at .ensures) in
+    let z = sym m ∙ c .before .before .before .if1 .left in
+    gives-as (ap (λ (i : Request). emit s (onRequest s (x .desk) i) (length b)) (sym (c .before .enum-told2 .given .1)) ∙ request-rule planned (a .desks) (a .n) cs k e x place (a .found) (a .c) (length b) q w z)
+    (emitted s (effect s s []) b (omega arith) tt (sym (written-none _ _))
+    (ap (λ (i : Change). stored s place i) (c .refuse2 .ensures) ∙ ap (λ (t : LineSet). done t 0) (stored-back s place (a .c) (w .stands .at))))
 
 pub on-request-spec : {M : Type 1} → statement M
 on-request-spec =
     tie.close
     (tie.spec
-    (λ c κs. search needs) (λ c κs. search needs) (λ c κs. search needs) returns (λ c κs. search needs)
-    (λ c κs. search needs) (λ c κs. search needs) (λ c κs. search needs) (λ c. search needs) returns-2
-    (λ c. search needs) returns-3 (λ c. search needs) returns-4)
+    (λ c κs. search needs) (λ c κs. search needs) (λ c κs. search needs) returns (λ c. search needs)
+    (λ c κs. search needs) (λ c. search needs) (λ c κs. search needs) (λ c. search needs) (λ c κs. search needs)
+    (λ c κs. search needs) (λ c. search needs) (λ c κs. search needs) (λ c. search needs) returns-2
+    (λ c. search needs) returns-3 (λ c. search needs) returns-4 returns-5)

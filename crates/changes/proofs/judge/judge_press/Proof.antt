@@ -7,32 +7,29 @@ use Rattle.changes.proofs.judge.judge_press.Statement.{statement}
 use Rattle.changes.proofs.judge.judge_press.Tie as tie
 
 returns : tie.Need-returns
-returns c = simp (not-true (c .before .args .there) (c .if1 .taken)) refl
+returns c = simp (ne-eqb _ _ (c .if1 .taken)) refl
 
 returns-2 : tie.Need-returns-2
-returns-2 c = simp (not-false (c .before .before .args .there) (c .before .if1 .left), ne-eqb _ _ (c .if2 .taken)) refl
+returns-2 c = simp (eq-eqb _ _ (c .before .if1 .left), not-true (c .before .before .args .found) (c .if2 .taken)) refl
 
 returns-3 : tie.Need-returns-3
-returns-3 c = simp (not-false (c .before .before .before .args .there) (c .before .before .if1 .left), eq-eqb _ _ (c .before .if2 .left), not-true (c .before .before .before .args .found) (c .if3 .taken)) refl
+returns-3 c = simp (eq-eqb _ _ (c .before .before .before .if1 .left), not-false (c .before .before .before .before .args .found) (c .before .before .if2 .left), sym (c .before .is-in .ensures) ∙ not-true _ (c .if3 .taken)) refl
 
 returns-4 : tie.Need-returns-4
-returns-4 c = simp (not-false (c .before .before .before .before .before .args .there) (c .before .before .before .before .if1 .left), eq-eqb _ _ (c .before .before .before .if2 .left), not-false (c .before .before .before .before .before .args .found) (c .before .before .if3 .left), sym (c .before .is-in .ensures) ∙ not-true _ (c .if4 .taken)) refl
+returns-4 c = simp (eq-eqb _ _ (c .before .before .before .before .before .if1 .left), not-false (c .before .before .before .before .before .before .args .found) (c .before .before .before .before .if2 .left), sym (c .before .before .before .is-in .ensures) ∙ not-false _ (c .before .before .if3 .left), sym (c .before .held-by .ensures) ∙ not-true _ (c .if4 .taken)) refl
 
 returns-5 : tie.Need-returns-5
-returns-5 c = simp (not-false (c .before .before .before .before .before .before .before .args .there) (c .before .before .before .before .before .before .if1 .left), eq-eqb _ _ (c .before .before .before .before .before .if2 .left), not-false (c .before .before .before .before .before .before .before .args .found) (c .before .before .before .before .if3 .left), sym (c .before .before .before .is-in .ensures) ∙ not-false _ (c .before .before .if4 .left), sym (c .before .held-by .ensures) ∙ not-true _ (c .if5 .taken)) refl
+returns-5 c = simp (eq-eqb _ _ (c .before .before .before .before .before .before .before .if1 .left), not-false (c .before .before .before .before .before .before .before .before .args .found) (c .before .before .before .before .before .before .if2 .left), sym (c .before .before .before .before .before .is-in .ensures) ∙ not-false _ (c .before .before .before .before .if3 .left), sym (c .before .before .before .held-by .ensures) ∙ not-false _ (c .before .before .if4 .left), ne-eqb _ _ (c .if5 .taken)) refl
 
 returns-6 : tie.Need-returns-6
-returns-6 c = simp (not-false (c .before .before .before .before .before .before .before .before .before .args .there) (c .before .before .before .before .before .before .before .before .if1 .left), eq-eqb _ _ (c .before .before .before .before .before .before .before .if2 .left), not-false (c .before .before .before .before .before .before .before .before .before .args .found) (c .before .before .before .before .before .before .if3 .left), sym (c .before .before .before .before .before .is-in .ensures) ∙ not-false _ (c .before .before .before .before .if4 .left), sym (c .before .before .before .held-by .ensures) ∙ not-false _ (c .before .before .if5 .left), ne-eqb _ _ (c .if6 .taken)) refl
+returns-6 c = simp (eq-eqb _ _ (c .before .before .before .before .before .before .before .before .before .if1 .left), not-false (c .before .before .before .before .before .before .before .before .before .before .args .found) (c .before .before .before .before .before .before .before .before .if2 .left), sym (c .before .before .before .before .before .before .before .is-in .ensures) ∙ not-false _ (c .before .before .before .before .before .before .if3 .left), sym (c .before .before .before .before .before .held-by .ensures) ∙ not-false _ (c .before .before .before .before .if4 .left), eq-eqb _ _ (c .before .before .if5 .left), sym (c .before .is-again .ensures) ∙ c .if6 .taken) refl
 
 returns-7 : tie.Need-returns-7
-returns-7 c = simp (not-false (c .before .before .before .before .before .before .before .before .before .before .before .args .there) (c .before .before .before .before .before .before .before .before .before .before .if1 .left), eq-eqb _ _ (c .before .before .before .before .before .before .before .before .before .if2 .left), not-false (c .before .before .before .before .before .before .before .before .before .before .before .args .found) (c .before .before .before .before .before .before .before .before .if3 .left), sym (c .before .before .before .before .before .before .before .is-in .ensures) ∙ not-false _ (c .before .before .before .before .before .before .if4 .left), sym (c .before .before .before .before .before .held-by .ensures) ∙ not-false _ (c .before .before .before .before .if5 .left), eq-eqb _ _ (c .before .before .if6 .left), sym (c .before .is-again .ensures) ∙ c .if7 .taken) refl
-
-returns-8 : tie.Need-returns-8
-returns-8 c = simp (not-false (c .before .before .before .before .before .before .before .before .before .before .before .args .there) (c .before .before .before .before .before .before .before .before .before .before .if1 .left), eq-eqb _ _ (c .before .before .before .before .before .before .before .before .before .if2 .left), not-false (c .before .before .before .before .before .before .before .before .before .before .before .args .found) (c .before .before .before .before .before .before .before .before .if3 .left), sym (c .before .before .before .before .before .before .before .is-in .ensures) ∙ not-false _ (c .before .before .before .before .before .before .if4 .left), sym (c .before .before .before .before .before .held-by .ensures) ∙ not-false _ (c .before .before .before .before .if5 .left), eq-eqb _ _ (c .before .before .if6 .left), sym (c .before .is-again .ensures) ∙ c .if7 .left) refl
+returns-7 c = simp (eq-eqb _ _ (c .before .before .before .before .before .before .before .before .before .if1 .left), not-false (c .before .before .before .before .before .before .before .before .before .before .args .found) (c .before .before .before .before .before .before .before .before .if2 .left), sym (c .before .before .before .before .before .before .before .is-in .ensures) ∙ not-false _ (c .before .before .before .before .before .before .if3 .left), sym (c .before .before .before .before .before .held-by .ensures) ∙ not-false _ (c .before .before .before .before .if4 .left), eq-eqb _ _ (c .before .before .if5 .left), sym (c .before .is-again .ensures) ∙ c .if6 .left) refl
 
 pub judge-press-spec : {M : Type 1} → statement M
 judge-press-spec =
     tie.close
     (tie.spec
-    returns returns-2 returns-3 (λ c κs. search needs) returns-4 (λ c κs. search needs) returns-5 returns-6
-    (λ c κs. search needs) returns-7 returns-8)
+    returns returns-2 (λ c κs. search needs) returns-3 (λ c κs. search needs) returns-4 returns-5 (λ c κs. search needs)
+    returns-6 returns-7)

@@ -1,38 +1,29 @@
--- `changes::judge::judge_request` meets its contract, test by test.
+-- `changes::judge::judge_request` meets its contract: the phase, and then by what is asked.
 -- Assumes nothing.
 use mathlib.Core.Path.{refl, sym, _∙_}
-use borrow.Author.Tests.{eq-eqb, ne-eqb, not-true, not-false}
+use borrow.Author.Tests.{eq-eqb, ne-eqb}
 use borrow.Author.Needs.{needs}
 use Rattle.changes.proofs.judge.judge_request.Statement.{statement}
 use Rattle.changes.proofs.judge.judge_request.Tie as tie
 
 returns : tie.Need-returns
-returns c = simp (ne-eqb _ _ (c .if1 .taken)) refl
+returns c = rw (← c .before .before .phase-of .ensures, ne-eqb _ _ (c .if1 .taken)) refl
 
 returns-2 : tie.Need-returns-2
-returns-2 c = simp (eq-eqb _ _ (c .before .before .before .if1 .left), sym (c .before .before .phase-of .ensures), ne-eqb _ _ (c .if2 .taken)) refl
+returns-2 c = rw (← c .before .before .before .before .phase-of .ensures, eq-eqb _ _ (c .before .before .if1 .left), c .enum-told .given .1) refl
 
 returns-3 : tie.Need-returns-3
-returns-3 c = rw (eq-eqb _ _ (c .before .before .before .before .before .if1 .left), eq-eqb _ _ (c .before .before .if2 .left ∙ c .before .before .before .before .phase-of .ensures), eq-eqb _ _ (c .if3 .taken)) refl
+returns-3 c = rw (← c .before .before .before .before .before .phase-of .ensures, eq-eqb _ _ (c .before .before .before .if1 .left), c .before .request .given .1) refl
 
 returns-4 : tie.Need-returns-4
-returns-4 c = rw (eq-eqb _ _ (c .before .before .before .before .before .before .before .if1 .left), eq-eqb _ _ (c .before .before .before .before .if2 .left ∙ c .before .before .before .before .before .before .phase-of .ensures), ne-eqb _ _ (c .before .before .if3 .left), eq-eqb _ _ (c .if4 .taken)) refl
+returns-4 c = rw (← c .before .before .before .before .before .before .phase-of .ensures, eq-eqb _ _ (c .before .before .before .before .if1 .left), c .before .before .request2 .given .1) (c .judge-channel .ensures)
 
 returns-5 : tie.Need-returns-5
-returns-5 c = rw (eq-eqb _ _ (c .before .before .before .before .before .before .before .before .if1 .left), eq-eqb _ _ (c .before .before .before .before .before .if2 .left ∙ c .before .before .before .before .before .before .before .phase-of .ensures), ne-eqb _ _ (c .before .before .before .if3 .left), ne-eqb _ _ (c .before .if4 .left), not-true (c .before .before .before .before .before .before .before .before .before .before .args .found) (c .if5 .taken)) refl
-
-returns-6 : tie.Need-returns-6
-returns-6 c = rw (eq-eqb _ _ (c .before .before .before .before .before .before .before .before .before .before .if1 .left), eq-eqb _ _ (c .before .before .before .before .before .before .before .if2 .left ∙ c .before .before .before .before .before .before .before .before .before .phase-of .ensures), ne-eqb _ _ (c .before .before .before .before .before .if3 .left), ne-eqb _ _ (c .before .before .before .if4 .left), not-false (c .before .before .before .before .before .before .before .before .before .before .before .before .args .found) (c .before .before .if5 .left), sym (c .before .is-in .ensures) ∙ not-true _ (c .if6 .taken)) refl
-
-returns-7 : tie.Need-returns-7
-returns-7 c = rw (eq-eqb _ _ (c .before .before .before .before .before .before .before .before .before .before .before .before .before .if1 .left), eq-eqb _ _ (c .before .before .before .before .before .before .before .before .before .before .if2 .left ∙ c .before .before .before .before .before .before .before .before .before .before .before .before .phase-of .ensures), ne-eqb _ _ (c .before .before .before .before .before .before .before .before .if3 .left), ne-eqb _ _ (c .before .before .before .before .before .before .if4 .left), not-false (c .before .before .before .before .before .before .before .before .before .before .before .before .before .before .before .args .found) (c .before .before .before .before .before .if5 .left), sym (c .before .before .before .before .is-in .ensures) ∙ not-false _ (c .before .before .before .if6 .left), eq-eqb _ _ (c .if7 .taken)) refl
-
-returns-8 : tie.Need-returns-8
-returns-8 c = rw (eq-eqb _ _ (c .before .before .before .before .before .before .before .before .before .before .before .before .before .if1 .left), eq-eqb _ _ (c .before .before .before .before .before .before .before .before .before .before .if2 .left ∙ c .before .before .before .before .before .before .before .before .before .before .before .before .phase-of .ensures), ne-eqb _ _ (c .before .before .before .before .before .before .before .before .if3 .left), ne-eqb _ _ (c .before .before .before .before .before .before .if4 .left), not-false (c .before .before .before .before .before .before .before .before .before .before .before .before .before .before .before .args .found) (c .before .before .before .before .before .if5 .left), sym (c .before .before .before .before .is-in .ensures) ∙ not-false _ (c .before .before .before .if6 .left), ne-eqb _ _ (c .if7 .left)) refl
+returns-5 c = rw (← c .before .before .before .before .phase-of .ensures, eq-eqb _ _ (c .before .before .if1 .left), c .enum-told2 .given .1) refl
 
 pub judge-request-spec : {M : Type 1} → statement M
 judge-request-spec =
     tie.close
     (tie.spec
-    returns (λ c κs. search needs) returns-2 returns-3 returns-4 returns-5 (λ c κs. search needs) returns-6 returns-7
-    returns-8)
+    (λ c κs. search needs) returns (λ c. search needs) (λ c. search needs) (λ c. search needs) (λ c κs. search needs)
+    (λ c. search needs) returns-2 returns-3 returns-4 returns-5)

@@ -1,49 +1,44 @@
 -- `changes::request::asked_by` meets its contract, arm by arm.
 -- Assumes nothing.
-
+use mathlib.Core.Path.{refl}
 use borrow.Author.Needs.{needs}
 use Rattle.changes.proofs.request.asked_by.Statement.{statement}
 use Rattle.changes.proofs.request.asked_by.Tie as tie
 
-enum-told : tie.Need-enum-told
-enum-told c = search needs
-
 returns : tie.Need-returns
-returns c = rw (c .before .before .message .given .1) (c .asks .ensures)
+returns c = rw (c .before .message .given .1) refl
 
 returns-2 : tie.Need-returns-2
-returns-2 c = rw (c .before .before .message2 .given .1) (c .asks2 .ensures)
+returns-2 c = rw (c .before .message2 .given .1) refl
 
 returns-3 : tie.Need-returns-3
-returns-3 c = rw (c .before .enum-told .given .1) (c .asks-nothing .ensures)
+returns-3 c = rw (c .enum-told .given .1) refl
 
 returns-4 : tie.Need-returns-4
-returns-4 c = rw (c .before .before .message3 .given .1) (c .asks-nothing2 .ensures)
+returns-4 c = rw (c .before .message3 .given .1) refl
 
 returns-5 : tie.Need-returns-5
-returns-5 c = rw (c .before .enum-told2 .given .1) (c .asks-nothing3 .ensures)
+returns-5 c = rw (c .enum-told2 .given .1) refl
 
 returns-6 : tie.Need-returns-6
-returns-6 c = rw (c .before .before .message4 .given .1) (c .asks-nothing4 .ensures)
+returns-6 c = rw (c .before .message4 .given .1) refl
 
 returns-7 : tie.Need-returns-7
-returns-7 c = rw (c .before .before .message5 .given .1) (c .asks-nothing5 .ensures)
+returns-7 c = rw (c .before .message5 .given .1) refl
 
 returns-8 : tie.Need-returns-8
-returns-8 c = rw (c .before .before .message6 .given .1) (c .asks3 .ensures)
+returns-8 c = rw (c .before .before .message6 .given .1) refl
 
 returns-9 : tie.Need-returns-9
-returns-9 c = rw (c .before .before .message7 .given .1) (c .asks-nothing6 .ensures)
+returns-9 c = rw (c .before .message7 .given .1) refl
 
 returns-10 : tie.Need-returns-10
-returns-10 c = rw (c .before .before .message8 .given .1) (c .asks-nothing7 .ensures)
+returns-10 c = rw (c .before .message8 .given .1) refl
 
 pub asked-by-spec : {M : Type 1} → statement M
 asked-by-spec =
     tie.close
     (tie.spec
-    (λ c. search needs) (λ c κs. search needs) (λ c. search needs) (λ c κs. search needs) enum-told
-    (λ c κs. search needs) (λ c. search needs) (λ c κs. search needs) (λ c. search needs) (λ c κs. search needs)
-    (λ c. search needs) (λ c κs. search needs) (λ c. search needs) (λ c κs. search needs) (λ c. search needs)
-    (λ c κs. search needs) (λ c. search needs) (λ c κs. search needs) (λ c. search needs) (λ c κs. search needs)
+    (λ c. search needs) (λ c. search needs) (λ c. search needs) (λ c. search needs) (λ c. search needs)
+    (λ c. search needs) (λ c. search needs) (λ c. search needs) (λ c. search needs) (λ c. search needs)
     returns returns-2 returns-3 returns-4 returns-5 returns-6 returns-7 returns-8 returns-9 returns-10)

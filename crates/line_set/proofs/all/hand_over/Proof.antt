@@ -9,7 +9,8 @@ use Rattle.channel.specs.declared.state.Event.the-variants.{Handover}
 use Rattle.set_rules.specs.State.{channelsOf}
 use Rattle.set_rules.specs.SetRules.{sendsOf, onHandover}
 use Rattle.set_rules.proofs.Answers.{even-all, space-length}
-use Rattle.line_set.proofs.Emission.{accepted, no-room, emitted}
+use Rattle.line_set.proofs.Emission.{no-room}
+use Rattle.changes.proofs.Changing.{done, emitted}
 use borrow.Author.Needs.{needs}
 use Rattle.line_set.proofs.all.hand_over.Statement.{statement}
 use Rattle.line_set.proofs.all.hand_over.Tie as tie
@@ -24,15 +25,15 @@ put-all-requires : tie.Need-put-all-requires
 put-all-requires c κs =
     let st = c .before .before .before .before in
     let s = st .args .set in
-    omega (arith, c .before .before .space-all .ensures, space-length (s .desks) (sendsOf s Handover (channelsOf s)) (even-all s Handover (channelsOf s)), c .before .if1 .left)
+    omega (arith, c .before .before .space-all .ensures, space-length (s .desks) (sendsOf (s .desks) (s .size .desks) Handover (channelsOf s)) (even-all (s .desks) (s .size .desks) Handover (channelsOf s)), c .before .if1 .left)
 
 returns-2 : tie.Need-returns-2
 unfolding onHandover
 returns-2 c =
     let st = c .before .before .before .before .before .before .before .before in
     let s = st .args .set in
-    emitted s (onHandover s) (now (st .args .buffer)) (omega (arith, c .before .before .before .before .before .before .space-all .ensures, c .before .before .before .before .before .if1 .left)) (even-all s Handover (channelsOf s)) (c .before .before .before .put-all .ensures .1)
-    (ap₂ (λ (t : LineSet) (n : ℕ). accepted t n) (c .new .ensures) (c .before .before .before .before .before .before .space-all .ensures))
+    emitted s (onHandover s) (now (st .args .buffer)) (omega (arith, c .before .before .before .before .before .before .space-all .ensures, c .before .before .before .before .before .if1 .left)) (even-all (s .desks) (s .size .desks) Handover (channelsOf s)) (c .before .before .before .put-all .ensures .1)
+    (ap₂ (λ (t : LineSet) (n : ℕ). done t n) (c .new .ensures) (c .before .before .before .before .before .before .space-all .ensures))
 
 pub hand-over-spec : {M : Type 1} → statement M
 hand-over-spec =

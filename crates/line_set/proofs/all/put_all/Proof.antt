@@ -15,19 +15,14 @@ use Rattle.line_set.proofs.Seeking.{count-is, at-taken}
 use denote.Ref.{now}
 use Rattle.records.specs.Emitting.{written}
 use Rattle.records.proofs.Writing.{Writing, start, next, room, done}
-use Rattle.set_rules.specs.Records.{Delivery, delivered, recordsOf}
-use Rattle.set_rules.specs.SetRules.{sendsOf}
-use Rattle.line_set.specs.Steps.{sendsIn, sendsFrom}
-use Rattle.line_set.proofs.Turns.{put-turn, put-end, sends-from}
+use Rattle.set_rules.specs.Records.{recordsOf}
+use Rattle.set_rules.specs.SetRules.{sentIn, sendsOf}
+use Rattle.line_set.proofs.Turns.{put-turn, put-end}
 use Rattle.line_set.proofs.all.put_all.Statement.{statement}
 use Rattle.line_set.proofs.all.put_all.Tie as tie
 
--- the requires, by the desks alone
-whole : (s : LineSet) (v : Event) {n : ℕ} → length (recordsOf (s .desks) (sendsOf s v (channelsOf s))) ≤ n → length (recordsOf (s .desks) (sendsFrom (s .desks) (s .size .desks) v (channelsOf s))) ≤ n
-whole s v h = rw (sends-from s v (channelsOf s)) h
-
 abbrev Inv-loop : tie.InvT-loop
-Inv-loop event buffer₀ set desks n end at₀ i₀ buffer at i = Writing buffer₀ 0 (recordsOf (set .desks) (sendsFrom (set .desks) (set .size .desks) event (channelsOf set))) buffer at (recordsOf (set .desks) (sendsFrom (set .desks) (set .size .desks) event (drop i (channelsOf set)))) × (i ≤ end)
+Inv-loop event buffer₀ set desks n end at₀ i₀ buffer at i = Writing buffer₀ 0 (recordsOf (set .desks) (sendsOf (set .desks) (set .size .desks) event (channelsOf set))) buffer at (recordsOf (set .desks) (sendsOf (set .desks) (set .size .desks) event (drop i (channelsOf set)))) × (i ≤ end)
 
 abbrev μ-loop : tie.MeasureT-loop
 μ-loop event buffer₀ set desks n end at₀ i₀ buffer at i = end - i
@@ -44,8 +39,8 @@ put-in-requires c κs =
     let e = c .before .before .before .before .count-of .ensures .0 ∙ count-is (s .channels) (s .size .channels) n in
     let h : l .i < length (channelsOf s) = omega (arith, e, c .before .before .loop-test .taken) in
     let g = at-taken (s .channels) (s .size .channels) (l .i) noChannel _ h in
-    let w = room (l .inv .0) (put-turn (s .desks) (s .size .desks) (st .args .event) (channelsOf s) (l .i) noChannel h) (omega (arith, whole s (st .args .event) (st .pre))) in
-    subst (λ (x : Channel). l .at + length (recordsOf (s .desks) (delivered (x .code) (sendsIn (s .desks) (s .size .desks) (st .args .event) x))) ≤ length (l .buffer)) g w
+    let w = room (l .inv .0) (put-turn (s .desks) (s .size .desks) (st .args .event) (channelsOf s) (l .i) noChannel h) (omega (arith, st .pre)) in
+    subst (λ (x : Channel). l .at + length (recordsOf (s .desks) (sentIn (s .desks) (s .size .desks) (st .args .event) x)) ≤ length (l .buffer)) g w
 
 loop-again : tie.Need-loop-again Inv-loop μ-loop
 loop-again c =
@@ -56,7 +51,7 @@ loop-again c =
     let e = c .before .before .before .before .before .before .before .count-of .ensures .0 ∙ count-is (s .channels) (s .size .channels) n in
     let h : l .i < length (channelsOf s) = omega (arith, e, c .before .before .before .before .before .loop-test .taken) in
     let g = at-taken (s .channels) (s .size .channels) (l .i) noChannel _ h in
-    let bytes : Channel → List ℕ = λ (x : Channel). recordsOf (s .desks) (delivered (x .code) (sendsIn (s .desks) (s .size .desks) (st .args .event) x)) in (
+    let bytes : Channel → List ℕ = λ (x : Channel). recordsOf (s .desks) (sentIn (s .desks) (s .size .desks) (st .args .event) x) in (
       next (l .inv .0) (put-turn (s .desks) (s .size .desks) (st .args .event) (channelsOf s) (l .i) noChannel h)
           (c .before .before .put-in .ensures .0 ∙ ap (λ (x : Channel). l .at + length (bytes x)) (sym g)) (c .before .before .put-in .ensures .1 ∙ ap (λ (x : Channel). written (l .buffer) (l .at) (bytes x)) (sym g)),
       omega arith,
@@ -73,8 +68,7 @@ returns c =
     let n : length (s .channels) ≡ 32 = sym (length-map (s .channels) _) ∙ (st .good .0 .1 .1 .0 .1 .0 .1) in
     let e = c .before .before .count-of .ensures .0 ∙ count-is (s .channels) (s .size .channels) n in
     let d = done (l .inv .0) (put-end (s .desks) (s .size .desks) (st .args .event) (channelsOf s) (l .i) (omega (arith, e, c .loop-test .left))) in
-    let k = ap (λ (vs : List Delivery). recordsOf (s .desks) vs) (sends-from s (st .args .event) (channelsOf s)) in
-    (d .0 ∙ zero-add _ ∙ ap length k, d .1 ∙ ap (λ (bs : List ℕ). written (now (st .args .buffer)) 0 bs) k)
+    (d .0 ∙ zero-add _, d .1)
 
 pub put-all-spec : {M : Type 1} → statement M
 put-all-spec =

@@ -14,8 +14,7 @@ use Rattle.records.specs.Emitting.{written}
 use Rattle.records.proofs.Writing.{written-none}
 use Rattle.set_rules.specs.Records.{delivered, recordsOf}
 use Rattle.changes.proofs.Heard.{same-records}
-use Rattle.changes.specs.Changes.{contextIn}
-use Rattle.line_set.specs.Steps.{sendsIn}
+use Rattle.set_rules.specs.SetRules.{contextOf, movedIn}
 use Rattle.line_set.proofs.Emission.{nothing-sent}
 use borrow.Author.Needs.{needs}
 use Rattle.line_set.proofs.all.put_in.Statement.{statement}
@@ -25,20 +24,20 @@ returns : tie.Need-returns
 unfolding recordsOf delivered
 returns c =
     let st = c .before .before .before in
-    let x = contextIn (st .args .desks) (st .args .n) (st .args .c) (holderPlace (st .args .c .holder)) in
-    let e = nothing-sent (sendsIn (st .args .desks) (st .args .n) (st .args .event) (st .args .c)) (sym (c .before .sends-any .ensures x) ∙ not-true _ (c .if1 .taken)) in
+    let x = contextOf (st .args .desks) (st .args .n) (st .args .c) (holderPlace (st .args .c .holder)) in
+    let e = nothing-sent (movedIn (st .args .desks) (st .args .n) (st .args .event) (st .args .c) .sends) (sym (c .before .sends-any .ensures x) ∙ not-true _ (c .if1 .taken)) in
     (rw e (omega arith), rw e (sym (written-none _ _)))
 
 put-requires : tie.Need-put-requires
 put-requires c κs =
     let st = c .before .before .before .before .before .before .before in
-    let h = c .before .before .moved .ensures .1 ∙ ap (λ (d : ℕ). heard (happens (st .args .event) (contextIn (st .args .desks) (st .args .n) (st .args .c) d) (st .args .c) .sends)) (c .before .before .before .holder-place .ensures) in
+    let h = c .before .before .moved .ensures .1 ∙ ap (λ (d : ℕ). heard (happens (st .args .event) (contextOf (st .args .desks) (st .args .n) (st .args .c) d) (st .args .c) .sends)) (c .before .before .before .holder-place .ensures) in
     rw (same-records (st .args .desks) (st .args .c .code) _ _ h) (st .pre)
 
 returns-2 : tie.Need-returns-2
 returns-2 c =
     let st = c .before .before .before .before .before .before .before .before .before .before in
-    let h = c .before .before .before .before .before .moved .ensures .1 ∙ ap (λ (d : ℕ). heard (happens (st .args .event) (contextIn (st .args .desks) (st .args .n) (st .args .c) d) (st .args .c) .sends)) (c .before .before .before .before .before .before .holder-place .ensures) in
+    let h = c .before .before .before .before .before .moved .ensures .1 ∙ ap (λ (d : ℕ). heard (happens (st .args .event) (contextOf (st .args .desks) (st .args .n) (st .args .c) d) (st .args .c) .sends)) (c .before .before .before .before .before .before .holder-place .ensures) in
     let e = same-records (st .args .desks) (st .args .c .code) _ _ h in
     (c .before .before .put .ensures .0 ∙ ap (λ (l : List ℕ). st .args .at + length l) e, c .before .before .put .ensures .1 ∙ ap (λ (l : List ℕ). written (now (st .args .buffer)) (st .args .at) l) e)
 

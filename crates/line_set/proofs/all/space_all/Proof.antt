@@ -8,9 +8,9 @@ use Rattle.channel.specs.declared.state.Channel.{Channel}
 use Rattle.set_rules.specs.State.{noChannel, channelsOf}
 use borrow.Author.Needs.{needs}
 use Rattle.line_set.proofs.Seeking.{count-is, at-taken}
-use Rattle.set_rules.specs.Records.{delivered, spaceOf}
-use Rattle.line_set.specs.Steps.{sendsIn}
-use Rattle.line_set.proofs.Turns.{Summed, sum-first, sum-next, sum-last, sends-from}
+use Rattle.set_rules.specs.Records.{spaceOf}
+use Rattle.set_rules.specs.SetRules.{sentIn}
+use Rattle.line_set.proofs.Turns.{Summed, sum-first, sum-next, sum-last}
 use Rattle.line_set.proofs.all.space_all.Statement.{statement}
 use Rattle.line_set.proofs.all.space_all.Tie as tie
 
@@ -36,7 +36,7 @@ loop-again c =
     let h : l .i < length (channelsOf s) = omega (arith, e, c .before .before .loop-test .taken) in
     let g = at-taken (s .channels) (s .size .channels) (l .i) noChannel _ h in (
       sum-next (s .desks) (s .size .desks) (st .args .event) (channelsOf s) (l .i) noChannel (l .sum) _ h
-          (c .space-in .ensures .0 ∙ ap (λ (x : Channel). spaceOf (delivered (x .code) (sendsIn (s .desks) (s .size .desks) (st .args .event) x))) (sym g)) (c .space-in .ensures .1) (l .inv .0),
+          (c .space-in .ensures .0 ∙ ap (λ (x : Channel). spaceOf (sentIn (s .desks) (s .size .desks) (st .args .event) x)) (sym g)) (c .space-in .ensures .1) (l .inv .0),
       omega arith,
     )
 
@@ -48,7 +48,6 @@ returns c =
     let n : length (s .channels) ≡ 32 = sym (length-map (s .channels) _) ∙ (st .good .0 .1 .1 .0 .1 .0 .1) in
     let e = c .before .before .count-of .ensures .0 ∙ count-is (s .channels) (s .size .channels) n in
     sum-last (s .desks) (s .size .desks) (st .args .event) (channelsOf s) (l .i) (l .sum) (omega (arith, e, c .loop-test .left)) (l .inv .0)
-    ∙ ap spaceOf (sends-from s (st .args .event) (channelsOf s))
 
 pub space-all-spec : {M : Type 1} → statement M
 space-all-spec =

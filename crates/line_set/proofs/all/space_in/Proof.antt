@@ -9,8 +9,7 @@ use Rattle.line_rules.specs.Rules.{happens}
 use Rattle.lines.specs.Scripts.{heard}
 use Rattle.set_rules.specs.Records.{delivered, spaceOf}
 use Rattle.changes.proofs.Heard.{same-space}
-use Rattle.changes.specs.Changes.{contextIn}
-use Rattle.line_set.specs.Steps.{sendsIn}
+use Rattle.set_rules.specs.SetRules.{contextOf, movedIn}
 use Rattle.line_set.proofs.Emission.{nothing-sent}
 use borrow.Author.Needs.{needs}
 use Rattle.line_set.proofs.all.space_in.Statement.{statement}
@@ -20,14 +19,14 @@ returns : tie.Need-returns
 unfolding spaceOf delivered
 returns c =
     let st = c .before .before in
-    let x = contextIn (st .args .desks) (st .args .n) (st .args .c) (holderPlace (st .args .c .holder)) in
-    (rw (nothing-sent (sendsIn (st .args .desks) (st .args .n) (st .args .event) (st .args .c)) (sym (c .before .sends-any .ensures x) ∙ not-true _ (c .if1 .taken))) refl, omega arith)
+    let x = contextOf (st .args .desks) (st .args .n) (st .args .c) (holderPlace (st .args .c .holder)) in
+    (rw (nothing-sent (movedIn (st .args .desks) (st .args .n) (st .args .event) (st .args .c) .sends) (sym (c .before .sends-any .ensures x) ∙ not-true _ (c .if1 .taken))) refl, omega arith)
 
 returns-2 : tie.Need-returns-2
 returns-2 c =
     let st = c .before .before .before .before .before .before in
     let ch = st .args .c .code in
-    let h = c .before .before .moved .ensures .1 ∙ ap (λ (d : ℕ). heard (happens (st .args .event) (contextIn (st .args .desks) (st .args .n) (st .args .c) d) (st .args .c) .sends)) (c .before .before .before .holder-place .ensures) in
+    let h = c .before .before .moved .ensures .1 ∙ ap (λ (d : ℕ). heard (happens (st .args .event) (contextOf (st .args .desks) (st .args .n) (st .args .c) d) (st .args .c) .sends)) (c .before .before .before .holder-place .ensures) in
     (c .space .ensures .0 ch ∙ same-space ch _ _ h, c .space .ensures .1)
 
 pub space-in-spec : {M : Type 1} → statement M

@@ -15,7 +15,7 @@ use mathlib.Core.Logic.{inl, inr}
 use Rattle.set_rules.specs.Records.{spaceOf}
 use borrow.Author.Needs.{needs}
 use Rattle.line_set.proofs.Seeking.{count-is, at-taken}
-use Rattle.line_set.proofs.Turns.{Summed, Ticked, sum-first, sum-silent, sum-last, sends-from, fall-next, tick-first, tick-at, tick-next, tick-kept, tick-last}
+use Rattle.line_set.proofs.Turns.{Summed, Ticked, sum-first, sum-silent, sum-last, fall-next, tick-first, tick-at, tick-next, tick-kept, tick-last}
 use Rattle.line_set.proofs.all.ticked.Statement.{statement}
 use Rattle.line_set.proofs.all.ticked.Tie as tie
 use Rattle.line_set.proofs.all.ticked.Reads as reads
@@ -117,8 +117,8 @@ returns c =
     let n : length (s .channels) ≡ 32 = sym (length-map (s .channels) _) ∙ (st .good .0 .1 .1 .0 .1 .0 .1) in
     let e = c .before .before .count-of .ensures .0 ∙ count-is (s .channels) (s .size .channels) n in
     let i : l .i ≡ length (channelsOf s) = omega (arith, e, l .inv .1, c .loop-test .left) in (
-      l .inv .2 ∙ ap (λ (cs : List Channel). withChannels cs s) (tick-last (s .channels) (s .size .channels) (l .i) (l .set .channels) i (l .inv .0) s),
-      λ z. ap spaceOf (sym (sends-from s Tick (channelsOf s))) ∙ sym (sum-last (s .desks) (s .size .desks) Tick (channelsOf s) (l .i) 0 (omega (arith, i)) (l .inv .3 z)),
+      l .inv .2 ∙ ap (λ (cs : List Channel). withChannels cs s) (tick-last (s .channels) (s .size .channels) (l .i) (l .set .channels) i (l .inv .0) (s .desks) (s .size .desks)),
+      λ z. sym (sum-last (s .desks) (s .size .desks) Tick (channelsOf s) (l .i) 0 (omega (arith, i)) (l .inv .3 z)),
     )
 
 pub ticked-spec : {M : Type 1} → statement M
