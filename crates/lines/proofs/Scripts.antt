@@ -8,9 +8,9 @@ use native.Mathlib.Omega.{arith}
 use lib.Dec.{eqb}
 use borrow.Author.Tests.{lt-ltb, le-ltb, eqb-true, eqb-false}
 use Rattle.channel.specs.State.{isHeld, heldBy, isPresent}
-use Rattle.line_rules.specs.Rules.{Context, Step, to, when, endOf, mobileOffSends, isOpen, captureAt, capture, release, cut, handover}
+use Rattle.line_rules.specs.Rules.{Context, Step, to, sentIf, endOf, mobileOffSends, isOpen, captureAt, capture, release, cut, handover}
 use Rattle.timers.specs.Falls.{runOut}
-use Rattle.lines.specs.Scripts.{heard, any}
+use Rattle.lines.specs.Scripts.{heard, sendsAny}
 use Rattle.channel.specs.declared.state.Holder.{Holder}
 use Rattle.channel.specs.declared.state.Holder.the-variants.{Nobody, Held}
 use Rattle.channel.specs.declared.state.Call.{Call}
@@ -34,88 +34,88 @@ heard-append [] ys = refl
 heard-append (x ∷ xs) ys = rw (cond-append (eqb (x .recipients) 0) x (heard xs) (heard ys), heard-append xs ys) refl
 
 -- what is heard of one send
-unfoldable pub one : Send → List Send
-one s = heard (s ∷ [])
+unfoldable pub heardOf : Send → List Send
+heardOf s = heard (s ∷ [])
 
 pub heard-nil : heard [] ≡ []
 unfolding heard
 heard-nil = refl
 
-pub heard-cons : (s : Send) (ss : List Send) → heard (s ∷ ss) ≡ one s ++ heard ss
-unfolding one
+pub heard-cons : (s : Send) (ss : List Send) → heard (s ∷ ss) ≡ heardOf s ++ heard ss
+unfolding heardOf
 heard-cons s ss = heard-append (s ∷ []) ss
 
 -- nobody hears what is sent to the empty set
-pub one-none : (n : Notice) → one (to 0 n) ≡ []
-unfolding one heard
-one-none n = refl
+pub heard-none : (n : Notice) → heardOf (to 0 n) ≡ []
+unfolding heardOf heard
+heard-none n = refl
 
 -- brings what is heard of two scripts to one form: send by send, without those to nobody
-pub ruleset send-by-send = (heard-append, heard-nil, heard-cons, one-none, append-assoc, append-nil)
+pub ruleset send-by-send = (heard-append, heard-nil, heard-cons, heard-none, append-assoc, append-nil)
 
 -- what is sent if a test holds is heard like what is sent to a set that is empty unless it holds
-pub heard-when : (t : Bool) (m : ℕ) (n : Notice) → heard (when t (to m n ∷ [])) ≡ one (to (cond t m 0) n)
-unfolding one heard
-heard-when true m n = refl
-heard-when false m n = refl
+pub heard-sentIf : (t : Bool) (m : ℕ) (n : Notice) → heard (sentIf t (to m n ∷ [])) ≡ heardOf (to (cond t m 0) n)
+unfolding heardOf heard
+heard-sentIf true m n = refl
+heard-sentIf false m n = refl
 
-pub heard-when-two : (t : Bool) (m : ℕ) (n n′ : Notice)
-    → heard (when t (to m n ∷ to m n′ ∷ [])) ≡ one (to (cond t m 0) n) ++ one (to (cond t m 0) n′)
-heard-when-two true m n n′ = simp send-by-send refl
-heard-when-two false m n n′ = simp send-by-send refl
+pub heard-sentIf-two : (t : Bool) (m : ℕ) (n n′ : Notice)
+    → heard (sentIf t (to m n ∷ to m n′ ∷ [])) ≡ heardOf (to (cond t m 0) n) ++ heardOf (to (cond t m 0) n′)
+heard-sentIf-two true m n n′ = simp send-by-send refl
+heard-sentIf-two false m n n′ = simp send-by-send refl
 
 -- ---- whether anything is sent
 
-pub any-append : (xs ys : List Send) → any (xs ++ ys) ≡ (any xs || any ys)
-any-append [] ys = refl
-any-append (x ∷ xs) ys = refl
+pub sendsAny-append : (xs ys : List Send) → sendsAny (xs ++ ys) ≡ (sendsAny xs || sendsAny ys)
+sendsAny-append [] ys = refl
+sendsAny-append (x ∷ xs) ys = refl
 
-pub any-when : (t : Bool) (s : Send) (ss : List Send) → any (when t (s ∷ ss)) ≡ t
-any-when true s ss = refl
-any-when false s ss = refl
+pub sendsAny-sentIf : (t : Bool) (s : Send) (ss : List Send) → sendsAny (sentIf t (s ∷ ss)) ≡ t
+sendsAny-sentIf true s ss = refl
+sendsAny-sentIf false s ss = refl
 
-pub any-end : (r : ℕ) (k : Call) → any (endOf r k) ≡ isOpen k
-any-end r Closed = refl
-any-end r (Open k d b s m) = refl
+pub sendsAny-end : (r : ℕ) (k : Call) → sendsAny (endOf r k) ≡ isOpen k
+sendsAny-end r Closed = refl
+sendsAny-end r (Open k d b s m) = refl
 
-pub any-mobile-off : (a : Arrival) → any (mobileOffSends a) ≡ isPresent a
-any-mobile-off Absent = refl
-any-mobile-off (Present k b n m) = refl
+pub sendsAny-mobile-off : (a : Arrival) → sendsAny (mobileOffSends a) ≡ isPresent a
+sendsAny-mobile-off Absent = refl
+sendsAny-mobile-off (Present k b n m) = refl
 
-any-captureAt : (h : Holder) (x : Context) (d : ℕ) (c : Channel) → any (captureAt h x d c .sends) ≡ true
-any-captureAt Nobody x d c = refl
-any-captureAt (Held h) x d c = refl
+sendsAny-captureAt : (h : Holder) (x : Context) (d : ℕ) (c : Channel) → sendsAny (captureAt h x d c .sends) ≡ true
+sendsAny-captureAt Nobody x d c = refl
+sendsAny-captureAt (Held h) x d c = refl
 
-pub any-capture : (x : Context) (d : ℕ) (c : Channel) → any (capture x d c .sends) ≡ true
+pub sendsAny-capture : (x : Context) (d : ℕ) (c : Channel) → sendsAny (capture x d c .sends) ≡ true
 unfolding capture
-any-capture x d c = any-captureAt (c .holder) x d c
+sendsAny-capture x d c = sendsAny-captureAt (c .holder) x d c
 
 -- a choice between two steps that both send something
-either : (t : Bool) (a b : Step) → any (a .sends) ≡ true → any (b .sends) ≡ true → any (cond t a b .sends) ≡ true
+either : (t : Bool) (a b : Step) → sendsAny (a .sends) ≡ true → sendsAny (b .sends) ≡ true → sendsAny (cond t a b .sends) ≡ true
 either true a b p q = p
 either false a b p q = q
 
-pub any-release : (x : Context) (d : ℕ) (c : Channel) → any (release x d c .sends) ≡ true
+pub sendsAny-release : (x : Context) (d : ℕ) (c : Channel) → sendsAny (release x d c .sends) ≡ true
 unfolding release
-any-release x d c = either (heldBy d (c .holder)) _ _ refl refl
+sendsAny-release x d c = either (heldBy d (c .holder)) _ _ refl refl
 
-pub any-cut : (x : Context) (c : Channel) → any (cut x c .sends) ≡ true
+pub sendsAny-cut : (x : Context) (c : Channel) → sendsAny (cut x c .sends) ≡ true
 unfolding cut
-any-cut x c = simp (any-append, or-true) refl
+sendsAny-cut x c = simp (sendsAny-append, or-true) refl
 
-pub any-handover : (x : Context) (c : Channel) → any (handover x c .sends) ≡ (c .pressed || isPresent (c .arrival) || isOpen (c .call) || isHeld (c .holder))
+pub sendsAny-handover : (x : Context) (c : Channel) → sendsAny (handover x c .sends) ≡ (c .pressed || isPresent (c .arrival) || isOpen (c .call) || isHeld (c .holder))
 unfolding handover
-any-handover x c = simp (any-append, any-when, any-end, any-mobile-off, or-assoc) refl
+sendsAny-handover x c = simp (sendsAny-append, sendsAny-sentIf, sendsAny-end, sendsAny-mobile-off, or-assoc) refl
 
 -- where a timer runs out: the end of a call, or that the channel is free
-pub any-run-out : (x : Context) (c : Channel) → any (runOut x c .sends) ≡ (eqb (c .quiet) 0 || isOpen (c .call))
+pub sendsAny-run-out : (x : Context) (c : Channel) → sendsAny (runOut x c .sends) ≡ (eqb (c .quiet) 0 || isOpen (c .call))
 unfolding runOut
-any-run-out x c = go (eqb (c .quiet) 0) refl
+sendsAny-run-out x c = go (eqb (c .quiet) 0) refl
   where
-    go : (t : Bool) → eqb (c .quiet) 0 ≡ t → any (runOut x c .sends) ≡ (eqb (c .quiet) 0 || isOpen (c .call))
+    go : (t : Bool) → eqb (c .quiet) 0 ≡ t → sendsAny (runOut x c .sends) ≡ (eqb (c .quiet) 0 || isOpen (c .call))
     go true e =
         let stopped : c .quiet ≤ 0 = omega (arith, eqb-true (c .quiet) 0 e) in
         simp (e, le-ltb 0 (c .quiet) stopped) refl
     go false e =
         let runs : 0 < c .quiet = omega (arith, eqb-false (c .quiet) 0 e) in
-        simp (e, lt-ltb 0 (c .quiet) runs, any-end) refl
+        simp (e, lt-ltb 0 (c .quiet) runs, sendsAny-end) refl

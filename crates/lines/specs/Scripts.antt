@@ -19,9 +19,9 @@ abbrev pub context : ℕ → Number → Context
 context e n = record { listeners = e; own = n }
 
 -- whether anything is sent
-abbrev pub any : List Send → Bool
-any [] = false
-any (s ∷ ss) = true
+abbrev pub sendsAny : List Send → Bool
+sendsAny [] = false
+sendsAny (s ∷ ss) = true
 
 -- the code gives the channel and the sends of a rule
 abbrev pub Follows : Moved → Step → Type 0

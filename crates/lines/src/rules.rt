@@ -23,7 +23,7 @@ use channel::is_present;
 use telegram::Number;
 ghost use mathlib.Core.Path.{_≡_};
 ghost use Rattle.line_rules.specs.Rules.{Context, handover, happens};
-ghost use Rattle.lines.specs.Scripts.{Follows, heard, context, any};
+ghost use Rattle.lines.specs.Scripts.{Follows, heard, context, sendsAny};
 
 // Whatever goes on is ended, in the order of the rules, and the channel is as new.
 fn handover(listeners: u8, own: Number, channel: Channel) -> Moved
@@ -69,7 +69,7 @@ pub fn happens(event: Event, listeners: u8, own: Number, channel: Channel) -> Mo
 
 // Whether there is anything to end at a handover.
 fn handover_sends_any(channel: Channel) -> bool
-    ensures { λ r. ⌜ ((x : Context) → r ≡ any (handover x channel .sends)) ⌝ }
+    ensures { λ r. ⌜ ((x : Context) → r ≡ sendsAny (handover x channel .sends)) ⌝ }
 {
     let arrival = channel.arrival;
     let call = channel.call;
@@ -79,7 +79,7 @@ fn handover_sends_any(channel: Channel) -> bool
 
 // Whether an event sends anything.
 pub fn sends_any(event: Event, channel: Channel) -> bool
-    ensures { λ r. ⌜ ((x : Context) → r ≡ any (happens event x channel .sends)) ⌝ }
+    ensures { λ r. ⌜ ((x : Context) → r ≡ sendsAny (happens event x channel .sends)) ⌝ }
 {
     match event {
         Event::Capture(_) => true,

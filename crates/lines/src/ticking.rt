@@ -15,7 +15,7 @@ ghost use mathlib.Core.Path.{_≡_};
 ghost use mathlib.Core.List.{[], _∷_};
 ghost use Rattle.line_rules.specs.Rules.{Context, tick};
 ghost use Rattle.timers.specs.Falls.{runOut};
-ghost use Rattle.lines.specs.Scripts.{Follows, heard, context, any};
+ghost use Rattle.lines.specs.Scripts.{Follows, heard, context, sendsAny};
 
 // What is sent when a timer runs out.
 fn run_out_send(listeners: u8, own: Number, channel: Channel) -> Send
@@ -53,7 +53,7 @@ pub fn tick(listeners: u8, own: Number, channel: Channel) -> Moved
 
 // Whether a tick sends anything.
 pub fn tick_sends_any(channel: Channel) -> bool
-    ensures { λ r. ⌜ ((x : Context) → r ≡ any (tick x channel .sends)) ⌝ }
+    ensures { λ r. ⌜ ((x : Context) → r ≡ sendsAny (tick x channel .sends)) ⌝ }
 {
     let falling = falls(channel);
     match falling {

@@ -35,7 +35,7 @@ use Rattle.set_rules.specs.Refusals.{firstOf, refusalOf, isCaller, table
 use Rattle.set_rules.specs.Records.{Delivery, delivered, recordSize, recordsOf, spaceOf}
 use Rattle.set_rules.specs.SetRules.{Effect, effect, telegramTo, timeTaken, answerTaken, contextOf, onChannel, byHolder, happensIn, nextsOf, sendsOf, onTick, onHandover, onPlan, onMessage, onReading, numberIn, accepted}
 use Rattle.set_rules.specs.Feeds.{Outcome, Item, refuse, emit, stepOf, stepBy, ofDesk, received, Seen, seenOf, views}
-use Rattle.set_rules.specs.Promises.{mobileEntry, Exchanged, OtherHolds, Alike, same, numbers, Related, none, more, Isolated}
+use Rattle.set_rules.specs.Promises.{mobileEntry, Exchanged, OtherHolds, Alike, same, numbers, Related, ended, more, Isolated}
 use Rattle.set_rules.specs.declared.state.Desk.{Desk}
 use Rattle.set_rules.specs.declared.state.LineSet.{LineSet}
 use Rattle.set_rules.specs.declared.state.Entry.{Entry}
@@ -439,7 +439,7 @@ module _ (B : ℕ) where
 
   views-alike : (s s′ : LineSet) (f f′ : List Item) → hideSet s ≡ hideSet s′ → Related B s f f′ → views B s f ≡ views B s′ f′
   unfolding views
-  views-alike s s′ [] [] h none = refl
+  views-alike s s′ [] [] h ended = refl
   views-alike s s′ (i ∷ f) (i′ ∷ f′) h (more a r rest) =
       let v : view s (i .entry) (i .room) ≡ view s′ (i′ .entry) (i′ .room) =
       view-alike s s′ h (i .entry) (i′ .entry) (i .room) a ∙ ap (view s′ (i′ .entry)) r in

@@ -19,7 +19,7 @@ use Rattle.set_rules.specs.Refusals.{firstOf, refusalOf}
 use Rattle.set_rules.specs.Records.{delivered, toEach, recordsOf, spaceOf}
 use Rattle.set_rules.specs.SetRules.{onChannel, accepted}
 use Rattle.set_rules.specs.Feeds.{Item, stepOf, ofDesk, views, Seen}
-use Rattle.set_rules.specs.Promises.{Speaks, same, numbers, none, more, item, Exchanged}
+use Rattle.set_rules.specs.Promises.{Speaks, same, numbers, ended, more, item, Exchanged}
 
 exchanged : Exchanged (digitsOf 8 990007) (digitsOf 8 990008)
 unfolding digitsOf allDigits valueFrom
@@ -47,7 +47,7 @@ witness = record {
       (more (same refl) refl
       (more (same refl) refl
       (more (numbers 7 3 (digitsOf 8 990007) (digitsOf 8 990008) refl refl exchanged other) refl
-      none))))));
+      ended))))));
   differ = λ p. let q : _≡_ {A = ℕ} 55 56 = ap last p in omega arith;
   receives = refl;
   learns = λ p. let q : _≡_ {A = ℕ} 55 56 = ap learnt p in omega arith;

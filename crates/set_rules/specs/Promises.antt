@@ -74,7 +74,7 @@ pub data Alike (B : ℕ) (s : LineSet) (e e′ : List ℕ) : Type 0 where
 -- Two feeds from a set that differ only so, with equal buffer lengths. "Who holds is what the line rules and refusals give for
 -- the entries before", in the first feed.
 pub data Related (B : ℕ) : LineSet → List Item → List Item → Type 0 where
-  none : {s : LineSet} → Related B s [] []
+  ended : {s : LineSet} → Related B s [] []
   more : {s : LineSet} {i i′ : Item} {f f′ : List Item} → Alike B s (i .entry) (i′ .entry) → i .room ≡ i′ .room
       → Related B (stepBy s i .after) f f′ → Related B s (i ∷ f) (i′ ∷ f′)
 

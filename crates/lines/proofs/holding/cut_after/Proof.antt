@@ -3,7 +3,7 @@
 use borrow.Author.Needs.{needs}
 use mathlib.Core.Path.{refl, sym}
 use Rattle.line_rules.specs.Rules.{cut}
-use Rattle.lines.proofs.Scripts.{send-by-send, heard-when-two}
+use Rattle.lines.proofs.Scripts.{send-by-send, heard-sentIf-two}
 use Rattle.lines.proofs.holding.cut_after.Statement.{statement}
 use Rattle.lines.proofs.holding.cut_after.Tie as tie
 
@@ -14,7 +14,7 @@ returns c =
     let off = c₄ .press-sends .ensures in
     let m = c₄ .before .before .holder-set .ensures in (
       refl,
-      simp (send-by-send, heard-when-two, off .0, off .1, m, c₄ .before .set-if .ensures, sym (c .before .end .ensures), c .freed .ensures) refl,
+      simp (send-by-send, heard-sentIf-two, off .0, off .1, m, c₄ .before .set-if .ensures, sym (c .before .end .ensures), c .freed .ensures) refl,
     )
 
 pub cut-after-spec : {M : Type 1} → statement M
