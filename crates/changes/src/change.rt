@@ -15,7 +15,7 @@ ghost use mathlib.Core.Bool.{cond};
 ghost use lib.Dec.{eqb};
 ghost use lib.ListN.{length};
 ghost use Rattle.line_rules.specs.Rules.{happens};
-ghost use Rattle.lines.specs.Scripts.{heard};
+ghost use Rattle.sends.specs.Scripts.{heard};
 ghost use Rattle.set_rules.specs.SetRules.{numberIn};
 ghost use Rattle.changes.specs.Changes.{Makes, contextIn, eventOf, unchanged, emitIn, onOne, timeIn, answerIn, lineIn, requestOn, changeIn};
 

@@ -1,18 +1,4 @@
 // What happens on a channel by its event, and whether that sends anything. The handover, which ends all, is here too.
-use super::choices::holder_set;
-use super::choices::is_open;
-use super::choices::set_if;
-use super::holding::capture;
-use super::holding::cut;
-use super::holding::release;
-use super::sends::end;
-use super::sends::freed;
-use super::sends::mobile_off_sends;
-use super::sends::press_sends;
-use super::talk::mobile_off;
-use super::talk::mobile_on;
-use super::talk::press_off;
-use super::talk::press_on;
 use super::ticking::tick;
 use super::ticking::tick_sends_any;
 use channel::Channel;
@@ -20,10 +6,25 @@ use channel::Event;
 use channel::Moved;
 use channel::is_held;
 use channel::is_present;
+use holding::capture;
+use holding::cut;
+use holding::release;
+use sends::end;
+use sends::freed;
+use sends::holder_set;
+use sends::is_open;
+use sends::mobile_off_sends;
+use sends::press_sends;
+use sends::set_if;
+use talk::mobile_off;
+use talk::mobile_on;
+use talk::press_off;
+use talk::press_on;
 use telegram::Number;
 ghost use mathlib.Core.Path.{_≡_};
 ghost use Rattle.line_rules.specs.Rules.{Context, handover, happens};
-ghost use Rattle.lines.specs.Scripts.{Follows, heard, context, sendsAny};
+ghost use Rattle.sends.specs.Scripts.{Follows, heard, context};
+ghost use Rattle.lines.specs.Sending.{sendsAny};
 
 // Whatever goes on is ended, in the order of the rules, and the channel is as new.
 fn handover(listeners: u8, own: Number, channel: Channel) -> Moved

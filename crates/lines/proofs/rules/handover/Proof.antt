@@ -3,7 +3,7 @@
 use borrow.Author.Needs.{needs}
 use mathlib.Core.Path.{refl, sym}
 use Rattle.line_rules.specs.Rules.{handover}
-use Rattle.lines.proofs.Scripts.{send-by-send, heard-sentIf, heard-sentIf-two}
+use Rattle.sends.proofs.Scripts.{send-by-send, heard-sentIf, heard-sentIf-two}
 use Rattle.lines.proofs.rules.handover.Statement.{statement}
 use Rattle.lines.proofs.rules.handover.Tie as tie
 

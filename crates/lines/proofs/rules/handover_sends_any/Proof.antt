@@ -2,7 +2,7 @@
 -- Assumes nothing.
 use borrow.Author.Needs.{needs}
 use mathlib.Core.Path.{sym}
-use Rattle.lines.proofs.Scripts.{sendsAny-handover}
+use Rattle.lines.proofs.Sending.{sendsAny-handover}
 use Rattle.lines.proofs.rules.handover_sends_any.Statement.{statement}
 use Rattle.lines.proofs.rules.handover_sends_any.Tie as tie
 

@@ -3,7 +3,7 @@
 use borrow.Author.Needs.{needs}
 use mathlib.Core.Path.{refl, sym, _∙_}
 use Rattle.line_rules.specs.Rules.{happens, pressOn, pressOff, mobileOn, mobileOff}
-use Rattle.lines.proofs.Scripts.{sendsAny-capture, sendsAny-release, sendsAny-cut, sendsAny-mobile-off}
+use Rattle.lines.proofs.Sending.{sendsAny-capture, sendsAny-release, sendsAny-cut, sendsAny-mobile-off}
 use Rattle.lines.proofs.rules.sends_any.Statement.{statement}
 use Rattle.lines.proofs.rules.sends_any.Tie as tie
 

@@ -3,7 +3,7 @@
 use borrow.Author.Needs.{needs}
 use mathlib.Core.Path.{refl, sym, _∙_}
 use Rattle.timers.proofs.Ticks.{tick-falling}
-use Rattle.lines.proofs.Scripts.{sendsAny-run-out}
+use Rattle.lines.proofs.Sending.{sendsAny-run-out}
 use Rattle.lines.proofs.ticking.tick_sends_any.Statement.{statement}
 use Rattle.lines.proofs.ticking.tick_sends_any.Tie as tie
 
