@@ -23,7 +23,7 @@ use talk::press_on;
 use telegram::Number;
 ghost use mathlib.Core.Path.{_≡_};
 ghost use Rattle.line_rules.specs.Rules.{Context, handover, happens};
-ghost use Rattle.sends.specs.Scripts.{Follows, heard, context};
+ghost use Rattle.sends.specs.Scripts.{Follows, context};
 ghost use Rattle.lines.specs.Sending.{sendsAny};
 
 // Whatever goes on is ended, in the order of the rules, and the channel is as new.
@@ -53,7 +53,7 @@ fn handover(listeners: u8, own: Number, channel: Channel) -> Moved
 
 // What happens on a channel, by its event.
 pub fn happens(event: Event, listeners: u8, own: Number, channel: Channel) -> Moved
-    ensures { λ r. ⌜ (r .next ≡ happens event (context listeners own) channel .next) × (heard (r .sends) ≡ heard (happens event (context listeners own) channel .sends)) ⌝ }
+    ensures { λ r. ⌜ Follows r (happens event (context listeners own) channel) ⌝ }
 {
     match event {
         Event::Capture(d) => capture(listeners, own, d, channel),

@@ -14,9 +14,9 @@ use telegram::Number;
 ghost use mathlib.Core.Path.{_≡_};
 ghost use mathlib.Core.List.{[], _∷_};
 ghost use Rattle.channel.specs.State.{holderPlace};
-ghost use Rattle.line_rules.specs.Rules.{up, step, to, startOf, openingSends, endOf, pressNotice, mobileOffSends};
-ghost use Rattle.sends.specs.Scripts.{Follows, heard, context};
-ghost use Rattle.channel.specs.declared.state.Notice.the-variants.{PressAnswer, Incoming, BaseArrival, CallerNotice, CaptureState};
+ghost use Rattle.line_rules.specs.Rules.{step, to, startOf, openingSends, endOf, mobileOffSends};
+ghost use Rattle.sends.specs.Scripts.{Follows, heard, pressSends, mobileSends};
+ghost use Rattle.channel.specs.declared.state.Notice.the-variants.{CaptureState};
 
 pub const DOWN: u8 = 1;
 
@@ -100,7 +100,7 @@ pub struct PressSends {
 }
 
 pub fn press_sends(on: u8, recipients: u8, own: Number, call: Call) -> PressSends
-    ensures { λ r. ⌜ (r .answer ≡ to recipients (PressAnswer on)) × (r .talk ≡ to recipients (pressNotice (context 0 own) call on)) ⌝ }
+    ensures { λ r. ⌜ r ≡ pressSends on recipients own call ⌝ }
 {
     let kind = kind_of(call);
     PressSends {
@@ -129,7 +129,7 @@ pub struct MobileSends {
 }
 
 pub fn mobile_sends(on: u8, kind: u8, base: u16, number: Number, recipients: u8) -> MobileSends
-    ensures { λ r. ⌜ (r .incoming ≡ to recipients (Incoming on)) × ((r .arrival ≡ to recipients (BaseArrival kind base number on)) × (r .talk ≡ to recipients (CallerNotice kind up base number on))) ⌝ }
+    ensures { λ r. ⌜ r ≡ mobileSends on kind base number recipients ⌝ }
 {
     MobileSends {
         incoming: Send {

@@ -14,7 +14,7 @@ returns c =
     let off = c₄ .press-sends .ensures in
     let m = c₄ .before .before .holder-set .ensures in (
       refl,
-      simp (send-by-send, heard-sentIf-two, off .0, off .1, m, c₄ .before .set-if .ensures, sym (c .before .end .ensures), c .freed .ensures) refl,
+      simp (send-by-send, heard-sentIf-two, off, m, c₄ .before .set-if .ensures, sym (c .before .end .ensures), c .freed .ensures) refl,
     )
 
 pub cut-after-spec : {M : Type 1} → statement M

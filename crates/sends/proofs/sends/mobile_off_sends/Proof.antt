@@ -11,10 +11,10 @@ enum-told c = search needs
 
 returns : tie.Need-returns
 unfolding heard
-returns c = let e = c .mobile-sends .ensures in simp (e .0, e .1 .0, e .1 .1, c .before .enum-told .given .1) refl
+returns c = simp (c .mobile-sends .ensures, c .before .enum-told .given .1) refl
 
 returns-2 : tie.Need-returns-2
-returns-2 c = let e = c .mobile-sends2 .ensures in simp (e .0, e .1 .0, e .1 .1, c .before .before .arrival .given .1) refl
+returns-2 c = simp (c .mobile-sends2 .ensures, c .before .before .arrival .given .1) refl
 
 pub mobile-off-sends-spec : {M : Type 1} → statement M
 mobile-off-sends-spec =

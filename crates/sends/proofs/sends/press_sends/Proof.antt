@@ -6,7 +6,7 @@ use Rattle.sends.proofs.sends.press_sends.Statement.{statement}
 use Rattle.sends.proofs.sends.press_sends.Tie as tie
 
 returns : tie.Need-returns
-returns c = (refl, rw (c .kind-of .ensures) refl)
+returns c = rw (c .kind-of .ensures) refl
 
 pub press-sends-spec : {M : Type 1} → statement M
 press-sends-spec = tie.close (tie.spec (λ c κs. search needs) returns)

@@ -15,7 +15,7 @@ returns c =
     let k = c .before .before .before .before .before .before .before .before .kind-of .ensures in
     let m = c .before .before .before .before .before .before .before .before .before .mobile-recipients .ensures in (
       simp (c .release-after .ensures, c .before .opened-by .ensures, new, k, m) refl,
-      simp (send-by-send, on .0, on .1 .0, on .1 .1, sym (rw (new, m) at (c .before .before .before .opening .ensures)), k, m) refl,
+      simp (send-by-send, on, sym (rw (new, m) at (c .before .before .before .opening .ensures)), k, m) refl,
     )
 
 pub mobile-on-spec : {M : Type 1} → statement M

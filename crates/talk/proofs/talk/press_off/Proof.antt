@@ -11,7 +11,7 @@ returns : tie.Need-returns
 unfolding pressOff
 returns c =
     let off = c .before .before .before .press-sends .ensures in
-    (simp (c .quiet-after-press .ensures) refl, simp (send-by-send, off .0, off .1, c .before .before .before .before .holder-set .ensures) refl)
+    (simp (c .quiet-after-press .ensures) refl, simp (send-by-send, off, c .before .before .before .before .holder-set .ensures) refl)
 
 pub press-off-spec : {M : Type 1} → statement M
 press-off-spec = tie.close (tie.spec (λ c κs. search needs) (λ c κs. search needs) (λ c κs. search needs) returns)

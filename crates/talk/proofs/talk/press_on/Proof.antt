@@ -14,7 +14,7 @@ returns c =
     let m = c .before .before .before .before .before .before .holder-set .ensures in
     let new = c .before .before .before .before .before .new-call .ensures in (
       simp (c .opened-by .ensures, new, m) refl,
-      simp (send-by-send, on .0, on .1, sym (rw (new, m) at (c .before .before .opening .ensures)), m) refl,
+      simp (send-by-send, on, sym (rw (new, m) at (c .before .before .opening .ensures)), m) refl,
     )
 
 pub press-on-spec : {M : Type 1} → statement M
