@@ -8,7 +8,7 @@ use native.Mathlib.Nat.{zero-mul, zero-add}
 use lib.Count.{onesIn}
 use lib.Dec.{eqb}
 use borrow.Author.Tests.{eqb-true}
-use Rattle.lines.specs.Scripts.{heard}
+use Rattle.sends.specs.Scripts.{heard}
 use Rattle.channel.specs.declared.state.Send.{Send}
 use Rattle.set_rules.specs.Records.{delivered, recordsOf, spaceOf}
 use Rattle.set_rules.specs.declared.state.Desk.{Desk}

@@ -16,7 +16,7 @@ ghost use mathlib.Core.Path.{_≡_};
 ghost use mathlib.Core.Bool.{Bool, true, cond};
 ghost use lib.Dec.{eqb};
 ghost use lib.ListN.{length};
-ghost use Rattle.lines.specs.Scripts.{Follows};
+ghost use Rattle.sends.specs.Scripts.{Follows};
 ghost use Rattle.set_rules.specs.SetRules.{movedBy, numberIn, timeTaken, answerTaken, onChannel};
 ghost use Rattle.set_rules.specs.Feeds.{emit};
 ghost use Rattle.changes.specs.Changes.{unchanged, eventOf, InSets, AnswersTo};

@@ -8,7 +8,7 @@ use lib.Dec.{eqb, ltb, leb}
 use lib.ListN.{replicate}
 use Rattle.telegram.specs.declared.message.Number.{Number}
 use Rattle.channel.specs.State.{only, isHeld, heldBy, holderPlace, isPresent}
-use Rattle.line_rules.specs.Rules.{Context, Step, to, when, quietTime, releaseTime, openingSends, endOf, pressOffSends, mobileOffSends, freedSends, capture, captureAt, cut, release, pressOn, pressCall, pressOff, mobileOn, mobileRecipients, mobileCall, mobileOff, tick, tickIdle, tickQuiet, tickRelease, handover, happens}
+use Rattle.line_rules.specs.Rules.{Context, Step, to, sentIf, quietTime, releaseTime, openingSends, endOf, pressOffSends, mobileOffSends, freedSends, capture, captureAt, cut, release, pressOn, pressCall, pressOff, mobileOn, mobileRecipients, mobileCall, mobileOff, tick, tickIdle, tickQuiet, tickRelease, handover, happens}
 use Rattle.line_rules.specs.Promises.{AllTo, OnToTheHolder, OffToTheTold, ToldAreKept, AllAbout, AboutTheHolder, NumberForTheHolder, ArrivalOutlivesACut, OneTimerAtATime, TenAndAHundredAndThirty, sentByTicks, recipientsOf}
 use Rattle.channel.specs.declared.state.Holder.{Holder}
 use Rattle.channel.specs.declared.state.Holder.the-variants.{Nobody, Held}
@@ -54,9 +54,9 @@ module _ (d : ℕ) where
   about-append [] ts a b = b
   about-append (s ∷ ss) ts a b = (a .0, about-append ss ts (a .1) b)
 
-  about-when : (t : Bool) (ss : List Send) → AllAbout d ss → AllAbout d (when t ss)
-  about-when true ss a = a
-  about-when false ss a = tt
+  about-sentIf : (t : Bool) (ss : List Send) → AllAbout d ss → AllAbout d (sentIf t ss)
+  about-sentIf true ss a = a
+  about-sentIf false ss a = tt
 
   about-either : (t : Bool) (a b : Step) → AllAbout d (a .sends) → AllAbout d (b .sends) → AllAbout d (cond t a b .sends)
   about-either true a b p q = p
@@ -83,7 +83,7 @@ about-cut : (x : Context) (c : Channel) → AllAbout (holderPlace (c .holder)) (
 unfolding cut
 about-cut x c =
     let d = holderPlace (c .holder) in
-    about-append d (when (c .pressed) (pressOffSends x c)) _ (about-when d (c .pressed) (pressOffSends x c) (tt, (tt, tt)))
+    about-append d (sentIf (c .pressed) (pressOffSends x c)) _ (about-sentIf d (c .pressed) (pressOffSends x c) (tt, (tt, tt)))
     (about-append d (endOf 1 (c .call)) (freedSends x c) (about-end d 1 (c .call)) (refl, tt))
 
 about-tick : (x : Context) (c : Channel) → AllAbout (holderPlace (c .holder)) (tick x c .sends)
@@ -100,9 +100,9 @@ about-handover : (x : Context) (c : Channel) → AllAbout (holderPlace (c .holde
 unfolding handover
 about-handover x c =
     let d = holderPlace (c .holder) in
-    about-append d (when (c .pressed) (pressOffSends x c)) _ (about-when d (c .pressed) (pressOffSends x c) (tt, (tt, tt)))
+    about-append d (sentIf (c .pressed) (pressOffSends x c)) _ (about-sentIf d (c .pressed) (pressOffSends x c) (tt, (tt, tt)))
     (about-append d (mobileOffSends (c .arrival)) _ (about-off d (c .arrival))
-    (about-append d (endOf 2 (c .call)) _ (about-end d 2 (c .call)) (about-when d (isHeld (c .holder)) (freedSends x c) (refl, tt))))
+    (about-append d (endOf 2 (c .call)) _ (about-end d 2 (c .call)) (about-sentIf d (isHeld (c .holder)) (freedSends x c) (refl, tt))))
 
 pub about-the-holder : AboutTheHolder
 unfolding happens capture release pressOn pressOff mobileOn mobileOff

@@ -56,8 +56,8 @@ abbrev pub to : ℕ → Notice → Send
 to m n = record { recipients = m; notice = n }
 
 -- what is sent if a test holds
-abbrev pub when : Bool → List Send → List Send
-when t ss = cond t ss []
+abbrev pub sentIf : Bool → List Send → List Send
+sentIf t ss = cond t ss []
 
 -- ---- a channel with one part changed
 
@@ -164,7 +164,7 @@ unfoldable pub cut : Context → Channel → Step
 cut x c =
     step
     (withHolder Nobody (withPressed false (withCall Closed (withQuiet 0 (withRelease 0 c)))))
-    (when (c .pressed) (pressOffSends x c) ++ (endOf 1 (c .call) ++ freedSends x c))
+    (sentIf (c .pressed) (pressOffSends x c) ++ (endOf 1 (c .call) ++ freedSends x c))
 
 -- "Release (order 0). By the holder: 550650 result 0, then a cut. Otherwise 550650 result 1."
 unfoldable pub release : Context → ℕ → Channel → Step
@@ -252,10 +252,10 @@ unfoldable pub handover : Context → Channel → Step
 handover x c =
     step
     (freeChannel (c .code) (c .entitled))
-    (when (c .pressed) (pressOffSends x c)
+    (sentIf (c .pressed) (pressOffSends x c)
     ++ (mobileOffSends (c .arrival)
     ++ (endOf 2 (c .call)
-    ++ when (isHeld (c .holder)) (freedSends x c))))
+    ++ sentIf (isHeld (c .holder)) (freedSends x c))))
 
 -- what happens on a channel, by its event
 unfoldable pub happens : Event → Context → Channel → Step

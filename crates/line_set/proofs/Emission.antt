@@ -7,7 +7,7 @@ use mathlib.Core.Path.{_≡_, refl, sym, ap, _∙_}
 use native.Mathlib.Omega.{arith}
 use lib.ListN.{length}
 use borrow.Author.Tests.{lt-leb}
-use Rattle.lines.specs.Scripts.{any}
+use Rattle.lines.specs.Sending.{sendsAny}
 use Rattle.channel.specs.declared.state.Send.{Send}
 use Rattle.records.specs.Emitting.{written}
 use Rattle.records.proofs.Writing.{written-none}
@@ -20,7 +20,7 @@ use Rattle.set_rules.specs.declared.state.LineSet.{LineSet}
 use Rattle.set_rules.specs.declared.state.Answer.{Answer}
 use Rattle.changes.specs.Changes.{Gives}
 
-pub nothing-sent : (ss : List Send) → any ss ≡ false → ss ≡ []
+pub nothing-sent : (ss : List Send) → sendsAny ss ≡ false → ss ≡ []
 nothing-sent [] h = refl
 nothing-sent (s ∷ ss) h = absurd (false≢true (sym h))
 

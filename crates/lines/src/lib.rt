@@ -1,10 +1,6 @@
-// The line rules of one channel, as code: a function a rule, over small functions for what a rule chooses and sends. Each
-// gives the channel after the rule, and what the rule sends.
-mod choices;
-mod holding;
+// What happens on a channel by its event, as code: the channel after it, and what it sends. Capture, cut and release are in
+// `holding`, press and mobile in `talk`; the tick and the handover are here.
 mod rules;
-mod sends;
-mod talk;
 mod ticking;
 
 pub use rules::happens;

@@ -1,18 +1,4 @@
 // What happens on a channel by its event, and whether that sends anything. The handover, which ends all, is here too.
-use super::choices::holder_set;
-use super::choices::is_open;
-use super::choices::set_if;
-use super::holding::capture;
-use super::holding::cut;
-use super::holding::release;
-use super::sends::end;
-use super::sends::freed;
-use super::sends::mobile_off_sends;
-use super::sends::press_sends;
-use super::talk::mobile_off;
-use super::talk::mobile_on;
-use super::talk::press_off;
-use super::talk::press_on;
 use super::ticking::tick;
 use super::ticking::tick_sends_any;
 use channel::Channel;
@@ -20,10 +6,25 @@ use channel::Event;
 use channel::Moved;
 use channel::is_held;
 use channel::is_present;
+use holding::capture;
+use holding::cut;
+use holding::release;
+use sends::end;
+use sends::freed;
+use sends::holder_set;
+use sends::is_open;
+use sends::mobile_off_sends;
+use sends::press_sends;
+use sends::set_if;
+use talk::mobile_off;
+use talk::mobile_on;
+use talk::press_off;
+use talk::press_on;
 use telegram::Number;
 ghost use mathlib.Core.Path.{_≡_};
 ghost use Rattle.line_rules.specs.Rules.{Context, handover, happens};
-ghost use Rattle.lines.specs.Scripts.{Follows, heard, context, any};
+ghost use Rattle.sends.specs.Scripts.{Follows, context};
+ghost use Rattle.lines.specs.Sending.{sendsAny};
 
 // Whatever goes on is ended, in the order of the rules, and the channel is as new.
 fn handover(listeners: u8, own: Number, channel: Channel) -> Moved
@@ -52,7 +53,7 @@ fn handover(listeners: u8, own: Number, channel: Channel) -> Moved
 
 // What happens on a channel, by its event.
 pub fn happens(event: Event, listeners: u8, own: Number, channel: Channel) -> Moved
-    ensures { λ r. ⌜ (r .next ≡ happens event (context listeners own) channel .next) × (heard (r .sends) ≡ heard (happens event (context listeners own) channel .sends)) ⌝ }
+    ensures { λ r. ⌜ Follows r (happens event (context listeners own) channel) ⌝ }
 {
     match event {
         Event::Capture(d) => capture(listeners, own, d, channel),
@@ -69,7 +70,7 @@ pub fn happens(event: Event, listeners: u8, own: Number, channel: Channel) -> Mo
 
 // Whether there is anything to end at a handover.
 fn handover_sends_any(channel: Channel) -> bool
-    ensures { λ r. ⌜ ((x : Context) → r ≡ any (handover x channel .sends)) ⌝ }
+    ensures { λ r. ⌜ ((x : Context) → r ≡ sendsAny (handover x channel .sends)) ⌝ }
 {
     let arrival = channel.arrival;
     let call = channel.call;
@@ -79,7 +80,7 @@ fn handover_sends_any(channel: Channel) -> bool
 
 // Whether an event sends anything.
 pub fn sends_any(event: Event, channel: Channel) -> bool
-    ensures { λ r. ⌜ ((x : Context) → r ≡ any (happens event x channel .sends)) ⌝ }
+    ensures { λ r. ⌜ ((x : Context) → r ≡ sendsAny (happens event x channel .sends)) ⌝ }
 {
     match event {
         Event::Capture(_) => true,

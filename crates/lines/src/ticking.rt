@@ -1,13 +1,13 @@
 // What a tick sends, when a timer runs out.
-use super::choices::is_open;
-use super::sends::SILENT;
-use super::sends::alone;
-use super::sends::end;
-use super::sends::freed;
 use channel::Channel;
 use channel::Falling;
 use channel::Moved;
 use channel::Send;
+use sends::SILENT;
+use sends::alone;
+use sends::end;
+use sends::freed;
+use sends::is_open;
 use telegram::Number;
 use timers::falls;
 use timers::ticked;
@@ -15,7 +15,8 @@ ghost use mathlib.Core.Path.{_≡_};
 ghost use mathlib.Core.List.{[], _∷_};
 ghost use Rattle.line_rules.specs.Rules.{Context, tick};
 ghost use Rattle.timers.specs.Falls.{runOut};
-ghost use Rattle.lines.specs.Scripts.{Follows, heard, context, any};
+ghost use Rattle.sends.specs.Scripts.{Follows, heard, context};
+ghost use Rattle.lines.specs.Sending.{sendsAny};
 
 // What is sent when a timer runs out.
 fn run_out_send(listeners: u8, own: Number, channel: Channel) -> Send
@@ -53,7 +54,7 @@ pub fn tick(listeners: u8, own: Number, channel: Channel) -> Moved
 
 // Whether a tick sends anything.
 pub fn tick_sends_any(channel: Channel) -> bool
-    ensures { λ r. ⌜ ((x : Context) → r ≡ any (tick x channel .sends)) ⌝ }
+    ensures { λ r. ⌜ ((x : Context) → r ≡ sendsAny (tick x channel .sends)) ⌝ }
 {
     let falling = falls(channel);
     match falling {

@@ -8,7 +8,7 @@ use native.Mathlib.Omega.{arith}
 use lib.ListN.{length, take, drop, length-drop, length-append, drop-of-length-le}
 use lib.Seq.{sets, sets-eq, take-all, drop-drop, length-sets}
 use Rattle.telegram.specs.Telegram.{over}
-use Rattle.records.specs.Emitting.{written}
+use Rattle.records.specs.Emitting.{written, PutAt}
 
 sets-append : (l : List ℕ) (i : ℕ) (xs ys : List ℕ) → sets l i (xs ++ ys) ≡ sets (sets l i xs) (i + length xs) ys
 sets-append l i [] ys = ap (λ (k : ℕ). sets l k ys) (sym (add-zero i))
@@ -74,7 +74,7 @@ pub room : {b₀ : List ℕ} {at : ℕ} {total b : List ℕ} {p : ℕ} {rest xs 
 room w e h = omega (arith, w .ends, w .same, simp length-append at (ap length (e .parts)))
 
 pub done : {b₀ : List ℕ} {at : ℕ} {total b : List ℕ} {p : ℕ} {rest : List ℕ} → Writing b₀ at total b p rest → rest ≡ []
-    → (p ≡ at + length total) × (b ≡ written b₀ at total)
+    → PutAt at total p b₀ b
 done {b₀} {at} {total} {b} {p} {rest} w e =
     (omega (arith, w .ends, ap length e), sym (written-none b p) ∙ (ap (λ (l : List ℕ). written b p l) (sym e) ∙ w .bytes))
 

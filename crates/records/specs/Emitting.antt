@@ -1,8 +1,10 @@
 -- How the code writes records: bytes at a place of a buffer, and what a record says.
-use Prim.Native.Nat.{ℕ, _/_, _%_}
+use Prim.Native.Nat.{ℕ, _+_, _/_, _%_}
 use mathlib.Core.List.{List, [], _∷_}
 use mathlib.Core.Bool.{cond}
+use mathlib.Core.Path.{_≡_}
 use lib.Dec.{eqb}
+use lib.ListN.{length}
 use lib.Seq.{sets}
 use Rattle.telegram.specs.Telegram.{telegramOf}
 use Rattle.telegram.specs.declared.message.Message.the-variants.{TimeRequest as AskTime, OperationRequest as AskOperation}
@@ -16,6 +18,10 @@ use Rattle.records.specs.declared.body.Body.the-variants.{About, TimeReq
 -- a buffer after bytes were stored from a place on; the others stay
 unfoldable pub written : List ℕ → ℕ → List ℕ → List ℕ
 written b at bs = sets b at bs
+
+-- bytes were stored from a place on, and r is the place behind them
+abbrev pub PutAt : ℕ → List ℕ → ℕ → List ℕ → List ℕ → Type 0
+PutAt at bs r before after = (r ≡ at + length bs) × (after ≡ written before at bs)
 
 -- what a body says to a desk
 abbrev pub bodyFor : ℕ → Body → Content

@@ -9,7 +9,7 @@ ghost use mathlib.Core.List.{[], _∷_};
 ghost use Prim.Native.Nat.{_+_, _≤_, _<_};
 ghost use lib.ListN.{length};
 ghost use Rattle.set_rules.specs.Records.{recordFor, recordsOf, delivered};
-ghost use Rattle.records.specs.Emitting.{written, bodyFor, delivery, deliveryOf, headBytes, toOne};
+ghost use Rattle.records.specs.Emitting.{written, PutAt, bodyFor, delivery, deliveryOf, headBytes, toOne};
 
 // The head of a record: how many bytes follow the length, the version, the desk, and what kind of content it is.
 fn put_head(buffer: &mut [u8], size: usize, d: u8, kind: u8)
@@ -39,7 +39,7 @@ fn put_record(buffer: &mut [u8], desks: [Desk; 4], d: u8, body: Body) -> usize
 // The record to desk d, if the lowest bit of m says that it is told.
 fn put_one(buffer: &mut [u8], at: usize, desks: [Desk; 4], d: u8, m: u8, body: Body) -> usize
     requires { ⌜ at + length (toOne desks d m body) ≤ length (now buffer) ⌝ }
-    ensures { λ r. ⌜ (r ≡ at + length (toOne desks d m body)) × (now (buffer .exit) ≡ written (now (buffer .entry)) at (toOne desks d m body)) ⌝ }
+    ensures { λ r. ⌜ PutAt at (toOne desks d m body) r (now (buffer .entry)) (now (buffer .exit)) ⌝ }
 {
     if m % 2 == 1 {
         return at + put_record(&mut buffer[at..], desks, d, body);
@@ -50,7 +50,7 @@ fn put_one(buffer: &mut [u8], at: usize, desks: [Desk; 4], d: u8, m: u8, body: B
 // Writes one body to the desks of a set, lowest first, from a place on, and gives the place behind.
 pub fn put_to(buffer: &mut [u8], at: usize, desks: [Desk; 4], recipients: u8, body: Body) -> usize
     requires { ⌜ at + length (recordsOf desks (delivery recipients body ∷ [])) ≤ length (now buffer) ⌝ }
-    ensures { λ r. ⌜ (r ≡ at + length (recordsOf desks (delivery recipients body ∷ []))) × (now (buffer .exit) ≡ written (now (buffer .entry)) at (recordsOf desks (delivery recipients body ∷ []))) ⌝ }
+    ensures { λ r. ⌜ PutAt at (recordsOf desks (delivery recipients body ∷ [])) r (now (buffer .entry)) (now (buffer .exit)) ⌝ }
 {
     let mut p = at;
     let mut d: u8 = 0;
@@ -66,7 +66,7 @@ pub fn put_to(buffer: &mut [u8], at: usize, desks: [Desk; 4], recipients: u8, bo
 // One send of a channel. Nothing is built for a send to nobody.
 fn put_send(buffer: &mut [u8], at: usize, desks: [Desk; 4], channel: u8, s: Send) -> usize
     requires { ⌜ at + length (recordsOf desks (deliveryOf channel s ∷ [])) ≤ length (now buffer) ⌝ }
-    ensures { λ r. ⌜ (r ≡ at + length (recordsOf desks (deliveryOf channel s ∷ []))) × (now (buffer .exit) ≡ written (now (buffer .entry)) at (recordsOf desks (deliveryOf channel s ∷ []))) ⌝ }
+    ensures { λ r. ⌜ PutAt at (recordsOf desks (deliveryOf channel s ∷ [])) r (now (buffer .entry)) (now (buffer .exit)) ⌝ }
 {
     if s.recipients != 0 {
         let notice = s.notice;
@@ -79,7 +79,7 @@ fn put_send(buffer: &mut [u8], at: usize, desks: [Desk; 4], channel: u8, s: Send
 // Writes what a channel sends, send by send.
 pub fn put(buffer: &mut [u8], at: usize, desks: [Desk; 4], channel: u8, sends: [Send; 7]) -> usize
     requires { ⌜ at + length (recordsOf desks (delivered channel sends)) ≤ length (now buffer) ⌝ }
-    ensures { λ r. ⌜ (r ≡ at + length (recordsOf desks (delivered channel sends))) × (now (buffer .exit) ≡ written (now (buffer .entry)) at (recordsOf desks (delivered channel sends))) ⌝ }
+    ensures { λ r. ⌜ PutAt at (recordsOf desks (delivered channel sends)) r (now (buffer .entry)) (now (buffer .exit)) ⌝ }
 {
     let mut p = at;
     let mut k = 0;

@@ -33,7 +33,7 @@ use Rattle.set_rules.specs.Refusals.{Lookup, lookup, Test, askedIn, name
 use Rattle.set_rules.specs.Records.{Delivery, delivered, recordSize, recordsOf, spaceOf}
 use Rattle.set_rules.specs.SetRules.{Effect, effect, telegramTo, timeTaken, answerTaken, contextOf, onChannel, byHolder, movedBy, movedIn, nextsOf, sendsOf, onTick, onHandover, onRequest, numberIn, ways, accepted}
 use Rattle.set_rules.specs.Feeds.{Outcome, Item, refuse, emit, outcomeOf, stepOf, stepBy, ofDesk, received, Seen, seenOf, views}
-use Rattle.set_rules.specs.Promises.{AlikeBut, Renumbered, OtherHolds, MayDiffer, same, talks, Related, none, more, Isolated}
+use Rattle.set_rules.specs.Promises.{AlikeBut, Renumbered, OtherHolds, MayDiffer, same, talks, Related, ended, more, Isolated}
 use Rattle.set_rules.specs.Invariant.{Each}
 use Rattle.set_rules.specs.declared.state.Desk.{Desk}
 use Rattle.set_rules.specs.declared.state.LineSet.{LineSet}
@@ -477,7 +477,7 @@ module _ (B : ℕ) where
 
   views-alike : (s s′ : LineSet) (f f′ : List Item) → hideSet s ≡ hideSet s′ → Related B s s′ f f′ → views B s f ≡ views B s′ f′
   unfolding views
-  views-alike s s′ [] [] h none = refl
+  views-alike s s′ [] [] h ended = refl
   views-alike s s′ (i ∷ f) (i′ ∷ f′) h (more a r rest) =
       let v : view s (i .entry) (i .room) ≡ view s′ (i′ .entry) (i′ .room) =
       view-alike s s′ h (i .entry) (i′ .entry) (i .room) a ∙ ap (view s′ (i′ .entry)) r in

@@ -14,7 +14,7 @@ use Rattle.telegram.specs.declared.message.Number.{Number}
 use Rattle.telegram.specs.declared.message.Message.{Message}
 use Rattle.telegram.specs.declared.message.Message.the-variants.{CaptureState as State}
 use Rattle.channel.specs.State.{isHeld, heldBy, isPresent, holderPlace}
-use Rattle.line_rules.specs.Rules.{Context, Step, step, to, when, happens, capture, captureAt, cut, release, pressOn, pressOff, mobileOn, mobileOff, tick, tickIdle, tickQuiet, tickRelease, handover, isOpen, openedBy, openingSends, startOf, endOf, kindOf, pressOffSends, pressCall, mobileCall, mobileOffSends, freedSends, mobileRecipients, holderSet}
+use Rattle.line_rules.specs.Rules.{Context, Step, step, to, sentIf, happens, capture, captureAt, cut, release, pressOn, pressOff, mobileOn, mobileOff, tick, tickIdle, tickQuiet, tickRelease, handover, isOpen, openedBy, openingSends, startOf, endOf, kindOf, pressOffSends, pressCall, mobileCall, mobileOffSends, freedSends, mobileRecipients, holderSet}
 use Rattle.line_rules.specs.Notices.{Content, telegram, contact, contentFor}
 use Rattle.channel.specs.declared.state.Holder.{Holder}
 use Rattle.channel.specs.declared.state.Holder.the-variants.{Nobody, Held}
@@ -110,9 +110,9 @@ append-ok : (ss ts : List Send) → SendsOk ss → SendsOk ts → SendsOk (ss ++
 append-ok [] ts a b = b
 append-ok (s ∷ ss) ts a b = (a .0, append-ok ss ts (a .1) b)
 
-when-ok : (t : Bool) (ss : List Send) → SendsOk ss → SendsOk (when t ss)
-when-ok true ss a = a
-when-ok false ss a = tt
+sentIf-ok : (t : Bool) (ss : List Send) → SendsOk ss → SendsOk (sentIf t ss)
+sentIf-ok true ss a = a
+sentIf-ok false ss a = tt
 
 pub record StepOk (st : Step) : Type 0 where
   pub next-ok : ChannelOk (st .next)
@@ -179,7 +179,7 @@ module _ (x : Context) (own : NumberOk (x .own)) (c : Channel) (ok : ChannelOk c
   cut-ok = record {
     next-ok = record { code-ok = ok .code-ok; call-ok = tt; arrival-ok = ok .arrival-ok };
     sends-ok =
-        append-ok (when (c .pressed) (pressOffSends x c)) (endOf 1 (c .call) ++ freedSends x c) (when-ok (c .pressed) (pressOffSends x c) press-off-ok)
+        append-ok (sentIf (c .pressed) (pressOffSends x c)) (endOf 1 (c .call) ++ freedSends x c) (sentIf-ok (c .pressed) (pressOffSends x c) press-off-ok)
         (append-ok (endOf 1 (c .call)) (freedSends x c) (end-ok 1 (omega arith) (c .call) (ok .call-ok)) freed-ok);
   }
 
@@ -262,9 +262,9 @@ module _ (x : Context) (own : NumberOk (x .own)) (c : Channel) (ok : ChannelOk c
   handover-ok = record {
     next-ok = record { code-ok = ok .code-ok; call-ok = tt; arrival-ok = tt };
     sends-ok =
-        append-ok (when (c .pressed) (pressOffSends x c)) _ (when-ok (c .pressed) (pressOffSends x c) press-off-ok)
+        append-ok (sentIf (c .pressed) (pressOffSends x c)) _ (sentIf-ok (c .pressed) (pressOffSends x c) press-off-ok)
         (append-ok (mobileOffSends (c .arrival)) _ (off-ok (c .arrival) (ok .arrival-ok))
-        (append-ok (endOf 2 (c .call)) _ (end-ok 2 (omega arith) (c .call) (ok .call-ok)) (when-ok (isHeld (c .holder)) (freedSends x c) freed-ok)));
+        (append-ok (endOf 2 (c .call)) _ (end-ok 2 (omega arith) (c .call) (ok .call-ok)) (sentIf-ok (isHeld (c .holder)) (freedSends x c) freed-ok)));
   }
 
   pub happens-ok : (v : Event) → EventOk v → StepOk (happens v x c)

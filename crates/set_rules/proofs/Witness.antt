@@ -20,7 +20,7 @@ use Rattle.set_rules.specs.Refusals.{firstOf, refusalOf}
 use Rattle.set_rules.specs.Records.{delivered, toEach, recordsOf, spaceOf}
 use Rattle.set_rules.specs.SetRules.{onChannel, accepted}
 use Rattle.set_rules.specs.Feeds.{Item, outcomeOf, stepOf, ofDesk, views, Seen}
-use Rattle.set_rules.specs.Promises.{entryOf, Speaks, same, talks, none, more, item, Renumbered}
+use Rattle.set_rules.specs.Promises.{entryOf, Speaks, same, talks, ended, more, item, Renumbered}
 
 renumbered : Renumbered (entryOf 4 (7 ∷ 3 ∷ digitsOf 8 990007)) (entryOf 4 (7 ∷ 3 ∷ digitsOf 8 990008))
 unfolding digitsOf allDigits valueFrom
@@ -48,7 +48,7 @@ witness = record {
       (more (same refl) refl
       (more (same refl) refl
       (more (talks renumbered other) refl
-      none))))));
+      ended))))));
   differ = λ p. let q : _≡_ {A = ℕ} 55 56 = ap last p in omega arith;
   receives = refl;
   learns = λ p. let q : _≡_ {A = ℕ} 55 56 = ap learnt p in omega arith;

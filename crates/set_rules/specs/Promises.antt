@@ -74,7 +74,7 @@ pub data MayDiffer (B : ℕ) (s : LineSet) (e e′ : List ℕ) : Type 0 where
 -- Two feeds, each from a set, that differ only so, with equal buffer lengths. "Who holds is what the line rules and refusals give
 -- for the entries before", in the first feed.
 pub data Related (B : ℕ) : LineSet → LineSet → List Item → List Item → Type 0 where
-  none : {s s′ : LineSet} → Related B s s′ [] []
+  ended : {s s′ : LineSet} → Related B s s′ [] []
   more : {s s′ : LineSet} {i i′ : Item} {f f′ : List Item} → MayDiffer B s (i .entry) (i′ .entry) → i .room ≡ i′ .room
       → Related B (stepBy s i .after) (stepBy s′ i′ .after) f f′ → Related B s s′ (i ∷ f) (i′ ∷ f′)
 

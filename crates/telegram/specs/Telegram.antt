@@ -5,7 +5,7 @@ use mathlib.Core.Bool.{Bool, true, false, _&&_, cond}
 use lib.Dec.{leb, eqb}
 use lib.ListN.{length, take, drop, getD}
 use Rattle.fields.specs.Digits.{digitsOf, allDigits, valueOf}
-use Rattle.fields.specs.Fields.{Field, length4, code, channel, base, callType, direction, reason, len, number, flag, year, month, day, hour, minute, second, bodyOk, valuesIn, allIn, bytesOf, size}
+use Rattle.fields.specs.Fields.{Field, length4, code, channel, base, callType, direction, reason, len, number, flag, year, month, day, hour, minute, second, bodyOk, valuesIn, allIn, bytesOf, bodySize}
 use Rattle.telegram.specs.declared.message.Number.{Number}
 use Rattle.telegram.specs.declared.message.Message.{Message}
 use Rattle.telegram.specs.declared.message.Message.the-variants.{TimeNotice, OperationAnswer, TimeRequest, BaseArrival, OperationRequest, Call, CallerNotice, CaptureRequest, CaptureReply, CaptureState}
@@ -195,7 +195,7 @@ valuesOf (CaptureState m) = m .channel ∷ 8 ∷ m .number .digits ∷ m .state 
 
 -- "length of the whole telegram"
 abbrev pub sizeOf : Message → ℕ
-sizeOf m = 16 + size (rowOf m .body)
+sizeOf m = 16 + bodySize (rowOf m .body)
 
 -- "Header, 16 bytes: "DV"; length of the whole telegram, 4 digits; organisation code, 4 digits; identifier, 6 digits. Then the body"
 abbrev pub headed : ℕ → ℕ → ℕ → List ℕ → List ℕ

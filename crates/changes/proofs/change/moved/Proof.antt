@@ -3,7 +3,7 @@
 use mathlib.Core.Path.{_≡_, ap, ap₂, _∙_}
 use Prim.Native.Nat.{ℕ}
 use Rattle.line_rules.specs.Rules.{Context, happens}
-use Rattle.lines.specs.Scripts.{heard, context}
+use Rattle.sends.specs.Scripts.{heard, context}
 use Rattle.set_rules.specs.declared.state.Desk.{Desk}
 use Rattle.set_rules.specs.SetRules.{contextOf}
 use borrow.Author.Needs.{needs}

@@ -9,7 +9,7 @@ use denote.Ref.{now}
 use borrow.Author.Tests.{not-true}
 use Rattle.channel.specs.State.{holderPlace}
 use Rattle.line_rules.specs.Rules.{happens}
-use Rattle.lines.specs.Scripts.{heard}
+use Rattle.sends.specs.Scripts.{heard}
 use Rattle.records.specs.Emitting.{written}
 use Rattle.records.proofs.Writing.{written-none}
 use Rattle.set_rules.specs.Records.{delivered, recordsOf}

@@ -6,7 +6,7 @@ use native.Mathlib.Omega.{arith}
 use borrow.Author.Tests.{not-true}
 use Rattle.channel.specs.State.{holderPlace}
 use Rattle.line_rules.specs.Rules.{happens}
-use Rattle.lines.specs.Scripts.{heard}
+use Rattle.sends.specs.Scripts.{heard}
 use Rattle.set_rules.specs.Records.{delivered, spaceOf}
 use Rattle.changes.proofs.Heard.{same-space}
 use Rattle.set_rules.specs.SetRules.{contextOf, movedIn}

@@ -3,7 +3,7 @@
 use borrow.Author.Needs.{needs}
 use mathlib.Core.Path.{refl, sym}
 use Rattle.line_rules.specs.Rules.{handover}
-use Rattle.lines.proofs.Scripts.{send-by-send, heard-when, heard-when-two}
+use Rattle.sends.proofs.Scripts.{send-by-send, heard-sentIf, heard-sentIf-two}
 use Rattle.lines.proofs.rules.handover.Statement.{statement}
 use Rattle.lines.proofs.rules.handover.Tie as tie
 
@@ -17,7 +17,7 @@ returns c =
     let m = c₁₂ .before .holder-set .ensures in
     let h = c .before .before .before .is-held .ensures in (
       c .new .ensures,
-      simp (send-by-send, heard-when, heard-when-two, off .0, off .1, m, c₁₂ .set-if .ensures, sym (c₈ .mobile-off-sends .ensures), sym (c₄ .end .ensures), c .before .freed .ensures, c .before .before .set-if2 .ensures, h) refl,
+      simp (send-by-send, heard-sentIf, heard-sentIf-two, off, m, c₁₂ .set-if .ensures, sym (c₈ .mobile-off-sends .ensures), sym (c₄ .end .ensures), c .before .freed .ensures, c .before .before .set-if2 .ensures, h) refl,
     )
 
 pub handover-spec : {M : Type 1} → statement M

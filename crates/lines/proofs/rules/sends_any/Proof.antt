@@ -3,7 +3,7 @@
 use borrow.Author.Needs.{needs}
 use mathlib.Core.Path.{refl, sym, _∙_}
 use Rattle.line_rules.specs.Rules.{happens, pressOn, pressOff, mobileOn, mobileOff}
-use Rattle.lines.proofs.Scripts.{any-capture, any-release, any-cut, any-mobile-off}
+use Rattle.lines.proofs.Sending.{sendsAny-capture, sendsAny-release, sendsAny-cut, sendsAny-mobile-off}
 use Rattle.lines.proofs.rules.sends_any.Statement.{statement}
 use Rattle.lines.proofs.rules.sends_any.Tie as tie
 
@@ -12,15 +12,15 @@ enum-told c = search needs
 
 returns : tie.Need-returns
 unfolding happens
-returns c x = rw (c .enum-told .given .1) (sym (any-capture x _ _))
+returns c x = rw (c .enum-told .given .1) (sym (sendsAny-capture x _ _))
 
 returns-2 : tie.Need-returns-2
 unfolding happens
-returns-2 c x = rw (c .enum-told2 .given .1) (sym (any-release x _ _))
+returns-2 c x = rw (c .enum-told2 .given .1) (sym (sendsAny-release x _ _))
 
 returns-3 : tie.Need-returns-3
 unfolding happens
-returns-3 c x = rw (c .enum-told3 .given .1) (sym (any-cut x _))
+returns-3 c x = rw (c .enum-told3 .given .1) (sym (sendsAny-cut x _))
 
 returns-4 : tie.Need-returns-4
 unfolding happens pressOn
@@ -36,7 +36,7 @@ returns-6 c x = rw (c .enum-told6 .given .1) refl
 
 returns-7 : tie.Need-returns-7
 unfolding happens mobileOff
-returns-7 c x = rw (c .before .enum-told7 .given .1) (c .is-present .ensures ∙ sym (any-mobile-off (c .before .before .before .args .channel .arrival)))
+returns-7 c x = rw (c .before .enum-told7 .given .1) (c .is-present .ensures ∙ sym (sendsAny-mobile-off (c .before .before .before .args .channel .arrival)))
 
 returns-8 : tie.Need-returns-8
 unfolding happens

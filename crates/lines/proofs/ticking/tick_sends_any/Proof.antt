@@ -3,7 +3,7 @@
 use borrow.Author.Needs.{needs}
 use mathlib.Core.Path.{refl, sym, _∙_}
 use Rattle.timers.proofs.Ticks.{tick-falling}
-use Rattle.lines.proofs.Scripts.{any-run-out}
+use Rattle.lines.proofs.Sending.{sendsAny-run-out}
 use Rattle.lines.proofs.ticking.tick_sends_any.Statement.{statement}
 use Rattle.lines.proofs.ticking.tick_sends_any.Tie as tie
 
@@ -20,7 +20,7 @@ returns-3 : tie.Need-returns-3
 returns-3 c x = simp (tick-falling, sym (c .before .before .falls .ensures) ∙ c .enum-told3 .given .1) refl
 
 returns-4 : tie.Need-returns-4
-returns-4 c x = simp (tick-falling, sym (c .before .before .before .before .falls .ensures) ∙ c .before .before .enum-told4 .given .1, any-run-out, c .is-open .ensures) refl
+returns-4 c x = simp (tick-falling, sym (c .before .before .before .before .falls .ensures) ∙ c .before .before .enum-told4 .given .1, sendsAny-run-out, c .is-open .ensures) refl
 
 pub tick-sends-any-spec : {M : Type 1} → statement M
 tick-sends-any-spec =

@@ -1,0 +1,52 @@
+-- Laws of what is heard of a script.
+-- Assumes nothing.
+use Prim.Native.Nat.{ℕ}
+use mathlib.Core.List.{List, [], _∷_, _++_, append-assoc, append-nil}
+use mathlib.Core.Bool.{Bool, true, false, cond}
+use mathlib.Core.Path.{_≡_, refl}
+use lib.Dec.{eqb}
+use Rattle.line_rules.specs.Rules.{to, sentIf}
+use Rattle.sends.specs.Scripts.{heard}
+use Rattle.channel.specs.declared.state.Notice.{Notice}
+use Rattle.channel.specs.declared.state.Send.{Send}
+
+-- what comes after a send that may be left out
+cond-append : (t : Bool) (s : Send) (xs ys : List Send) → cond t xs (s ∷ xs) ++ ys ≡ cond t (xs ++ ys) (s ∷ (xs ++ ys))
+cond-append true s xs ys = refl
+cond-append false s xs ys = refl
+
+pub heard-append : (xs ys : List Send) → heard (xs ++ ys) ≡ heard xs ++ heard ys
+unfolding heard
+heard-append [] ys = refl
+heard-append (x ∷ xs) ys = rw (cond-append (eqb (x .recipients) 0) x (heard xs) (heard ys), heard-append xs ys) refl
+
+-- what is heard of one send
+unfoldable pub heardOf : Send → List Send
+heardOf s = heard (s ∷ [])
+
+pub heard-nil : heard [] ≡ []
+unfolding heard
+heard-nil = refl
+
+pub heard-cons : (s : Send) (ss : List Send) → heard (s ∷ ss) ≡ heardOf s ++ heard ss
+unfolding heardOf
+heard-cons s ss = heard-append (s ∷ []) ss
+
+-- nobody hears what is sent to the empty set
+pub heard-none : (n : Notice) → heardOf (to 0 n) ≡ []
+unfolding heardOf heard
+heard-none n = refl
+
+-- brings what is heard of two scripts to one form: send by send, without those to nobody
+pub ruleset send-by-send = (heard-append, heard-nil, heard-cons, heard-none, append-assoc, append-nil)
+
+-- what is sent if a test holds is heard like what is sent to a set that is empty unless it holds
+pub heard-sentIf : (t : Bool) (m : ℕ) (n : Notice) → heard (sentIf t (to m n ∷ [])) ≡ heardOf (to (cond t m 0) n)
+unfolding heardOf heard
+heard-sentIf true m n = refl
+heard-sentIf false m n = refl
+
+pub heard-sentIf-two : (t : Bool) (m : ℕ) (n n′ : Notice)
+    → heard (sentIf t (to m n ∷ to m n′ ∷ [])) ≡ heardOf (to (cond t m 0) n) ++ heardOf (to (cond t m 0) n′)
+heard-sentIf-two true m n n′ = simp send-by-send refl
+heard-sentIf-two false m n n′ = simp send-by-send refl

@@ -1,0 +1,27 @@
+// What the code of the line rules is made of: what a rule chooses by the parts of a channel, and what it sends.
+mod choices;
+mod sends;
+
+pub use choices::holder_set;
+pub use choices::is_open;
+pub use choices::kind_of;
+pub use choices::mobile_recipients;
+pub use choices::new_call;
+pub use choices::opened_by;
+pub use choices::quiet_after_mobile;
+pub use choices::quiet_after_press;
+pub use choices::release_after;
+pub use choices::set_if;
+pub use sends::DESK;
+pub use sends::DOWN;
+pub use sends::MobileSends;
+pub use sends::PressSends;
+pub use sends::SILENT;
+pub use sends::UP;
+pub use sends::alone;
+pub use sends::end;
+pub use sends::freed;
+pub use sends::mobile_off_sends;
+pub use sends::mobile_sends;
+pub use sends::opening;
+pub use sends::press_sends;

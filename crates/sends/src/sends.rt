@@ -1,0 +1,199 @@
+// What the rules send. A send to the empty set stands where a rule sends nothing.
+use super::choices::GENERAL;
+use super::choices::NOBODY;
+use super::choices::kind_of;
+use channel::Arrival;
+use channel::Call;
+use channel::Channel;
+use channel::Holder;
+use channel::Moved;
+use channel::Notice;
+use channel::Send;
+use channel::holder_place;
+use telegram::Number;
+ghost use mathlib.Core.Path.{_≡_};
+ghost use mathlib.Core.List.{[], _∷_};
+ghost use Rattle.channel.specs.State.{holderPlace};
+ghost use Rattle.line_rules.specs.Rules.{step, to, startOf, openingSends, endOf, mobileOffSends};
+ghost use Rattle.sends.specs.Scripts.{Follows, heard, pressSends, mobileSends};
+ghost use Rattle.channel.specs.declared.state.Notice.the-variants.{CaptureState};
+
+pub const DOWN: u8 = 1;
+
+pub const UP: u8 = 2;
+
+// The base of what a desk says.
+pub const DESK: u16 = 999;
+
+// Stands where a rule sends nothing.
+pub const SILENT: Send = Send {
+    recipients: NOBODY,
+    notice: Notice::PressAnswer { on: 0 },
+};
+
+// The start of a call.
+fn start(call: Call) -> Send
+    ensures { λ r. ⌜ heard (r ∷ []) ≡ heard (startOf call) ⌝ }
+{
+    match call {
+        Call::Closed => SILENT,
+        Call::Open {
+            kind,
+            direction,
+            base,
+            source,
+            recipients,
+        } => Send {
+            recipients,
+            notice: Notice::Call {
+                kind,
+                direction,
+                base,
+                source,
+                start: 1,
+                reason: 0,
+            },
+        },
+    }
+}
+
+// The start that goes with `opened_by`: none while a call is open.
+pub fn opening(call: Call, new: Call) -> Send
+    ensures { λ r. ⌜ heard (r ∷ []) ≡ heard (openingSends call new) ⌝ }
+{
+    match call {
+        Call::Closed => start(new),
+        Call::Open { .. } => SILENT,
+    }
+}
+
+// The end of a call, if one is open.
+pub fn end(reason: u8, call: Call) -> Send
+    ensures { λ r. ⌜ heard (r ∷ []) ≡ heard (endOf reason call) ⌝ }
+{
+    match call {
+        Call::Closed => SILENT,
+        Call::Open {
+            kind,
+            direction,
+            base,
+            source,
+            recipients,
+        } => Send {
+            recipients,
+            notice: Notice::Call {
+                kind,
+                direction,
+                base,
+                source,
+                start: 0,
+                reason,
+            },
+        },
+    }
+}
+
+// What is sent when a holder starts to talk (`on` is 1) or ends.
+pub struct PressSends {
+    pub answer: Send,
+    pub talk: Send,
+}
+
+pub fn press_sends(on: u8, recipients: u8, own: Number, call: Call) -> PressSends
+    ensures { λ r. ⌜ r ≡ pressSends on recipients own call ⌝ }
+{
+    let kind = kind_of(call);
+    PressSends {
+        answer: Send {
+            recipients,
+            notice: Notice::PressAnswer { on },
+        },
+        talk: Send {
+            recipients,
+            notice: Notice::CallerNotice {
+                kind,
+                direction: DOWN,
+                base: DESK,
+                number: own,
+                order: on,
+            },
+        },
+    }
+}
+
+// What is sent when a mobile starts to talk (`on` is 1) or ends.
+pub struct MobileSends {
+    pub incoming: Send,
+    pub arrival: Send,
+    pub talk: Send,
+}
+
+pub fn mobile_sends(on: u8, kind: u8, base: u16, number: Number, recipients: u8) -> MobileSends
+    ensures { λ r. ⌜ r ≡ mobileSends on kind base number recipients ⌝ }
+{
+    MobileSends {
+        incoming: Send {
+            recipients,
+            notice: Notice::Incoming { on },
+        },
+        arrival: Send {
+            recipients,
+            notice: Notice::BaseArrival {
+                kind,
+                base,
+                number,
+                order: on,
+            },
+        },
+        talk: Send {
+            recipients,
+            notice: Notice::CallerNotice {
+                kind,
+                direction: UP,
+                base,
+                number,
+                order: on,
+            },
+        },
+    }
+}
+
+// What ends an arrival, if there is one.
+pub fn mobile_off_sends(arrival: Arrival) -> MobileSends
+    ensures { λ r. ⌜ heard (r .incoming ∷ r .arrival ∷ r .talk ∷ []) ≡ heard (mobileOffSends arrival) ⌝ }
+{
+    match arrival {
+        Arrival::Absent => mobile_sends(0, GENERAL, 0, Number::NONE, NOBODY),
+        Arrival::Present {
+            kind,
+            base,
+            number,
+            recipients,
+        } => mobile_sends(0, kind, base, number, recipients),
+    }
+}
+
+// That the channel is free. The holder's number goes to the holder alone, so the notice has the holder's place too.
+pub fn freed(recipients: u8, own: Number, holder: Holder) -> Send
+    ensures { λ r. ⌜ r ≡ to recipients (CaptureState (holderPlace holder) own 0) ⌝ }
+{
+    let place = holder_place(holder);
+    Send {
+        recipients,
+        notice: Notice::CaptureState {
+            holder: place,
+            number: own,
+            state: 0,
+        },
+    }
+}
+
+// What a rule gives that sends one thing at most.
+pub fn alone(next: Channel, send: Send) -> Moved
+    ensures { λ r. ⌜ Follows r (step next (send ∷ [])) ⌝ }
+{
+    Moved {
+        next,
+        sends: [send, SILENT, SILENT, SILENT, SILENT, SILENT, SILENT],
+    }
+}
