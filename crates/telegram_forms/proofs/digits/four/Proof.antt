@@ -1,20 +1,14 @@
--- `telegram_forms::digits::four` meets its contract: `digitsOf`, written out at this width.
+-- `telegram_forms::digits::four` meets its contract, by the law over the width.
 -- Assumes nothing.
-use Prim.Native.Nat.{_+_, suc}
-use mathlib.Core.Path.{_≡_}
-use native.Mathlib.Omega.{arith}
-use Rattle.fields.specs.Digits.{digitsOf}
 use borrow.Author.Needs.{needs}
+use Rattle.telegram_forms.proofs.PutLaws.{put-digits}
 use Rattle.telegram_forms.proofs.digits.four.Statement.{statement}
 use Rattle.telegram_forms.proofs.digits.four.Tie as tie
 
 returns : tie.Need-returns
-unfolding digitsOf
 returns c =
-    let p1 : c .before .before .before .before .args .at + 1 ≡ suc (c .before .before .before .before .args .at) = omega arith in
-    let p2 : c .before .before .before .before .args .at + 2 ≡ suc (suc (c .before .before .before .before .args .at)) = omega arith in
-    let p3 : c .before .before .before .before .args .at + 3 ≡ suc (suc (suc (c .before .before .before .before .args .at))) = omega arith in
-    rw (c .before .before .before .digit .ensures, c .before .before .digit2 .ensures, c .before .digit3 .ensures, c .digit4 .ensures, p1, p2, p3)
+    rw (c .before .before .before .digit .ensures, c .before .before .digit2 .ensures, c .before .digit3 .ensures, c .digit4 .ensures)
+    (put-digits 4 _ _ _)
 
 pub four-spec : {M : Type 1} → statement M
 four-spec =

@@ -1,18 +1,17 @@
 -- `telegram_forms::messages::put_capture_state` meets its contract: header and numbers in the order of the row.
 -- Assumes nothing.
-use mathlib.Core.Path.{_∙_}
-use Rattle.fields.specs.Digits.{digitsOf}
-use Rattle.fields.specs.Fields.{bytesOf}
-use Rattle.telegram.specs.Telegram.{telegramOf}
 use borrow.Author.Needs.{needs}
+use Rattle.telegram_forms.proofs.PutLaws.{put-telegram, left}
 use Rattle.telegram_forms.proofs.messages.put_capture_state.Statement.{statement}
 use Rattle.telegram_forms.proofs.messages.put_capture_state.Tie as tie
 
 returns : tie.Need-returns
-unfolding telegramOf bytesOf digitsOf
 returns c =
-    let p = c .before .before .copy .ensures in
-    (p .0, p .1 ∙ rw (c .before .before .before .before .one2 .ensures, c .before .before .before .before .before .eight .ensures, c .before .before .before .before .before .before .one .ensures, c .before .before .before .before .before .before .before .three .ensures, c .before .before .before .before .before .before .before .before .header .ensures))
+    let k = c .before .before .before .before in
+    let l = k .before .before .before .before in
+    left (c .before .before .copy .ensures)
+    (rw (k .one2 .ensures, k .before .eight .ensures, k .before .before .one .ensures, k .before .before .before .three .ensures)
+    (rw (l .header .ensures) (put-telegram _ _ _)))
 
 pub put-capture-state-spec : {M : Type 1} → statement M
 put-capture-state-spec =
