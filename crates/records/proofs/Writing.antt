@@ -1,20 +1,15 @@
 -- Bytes written at a place of a buffer: one run after another, in a part of the buffer, and over the turns of a loop.
 -- Assumes nothing.
-use Prim.Native.Nat.{ℕ, suc, _+_, _-_, _≤_}
-use mathlib.Core.List.{List, [], _∷_, _++_, append-assoc, append-nil}
+use Prim.Native.Nat.{ℕ, _+_, _-_, _≤_}
+use mathlib.Core.List.{List, [], _++_, append-assoc, append-nil}
 use mathlib.Core.Path.{_≡_, refl, sym, ap, _∙_}
-use native.Mathlib.Nat.{add-zero, zero-add, le-refl}
+use native.Mathlib.Nat.{zero-add, le-refl}
 use native.Mathlib.Omega.{arith}
 use lib.ListN.{length, take, drop, length-drop, length-append, drop-of-length-le}
 use lib.Seq.{sets, sets-eq, take-all, drop-drop, length-sets}
 use Rattle.telegram.specs.Telegram.{over}
+use Rattle.telegram_forms.proofs.PutLaws.{sets-append}
 use Rattle.records.specs.Emitting.{written, PutAt}
-
-sets-append : (l : List ℕ) (i : ℕ) (xs ys : List ℕ) → sets l i (xs ++ ys) ≡ sets (sets l i xs) (i + length xs) ys
-sets-append l i [] ys = ap (λ (k : ℕ). sets l k ys) (sym (add-zero i))
-sets-append l i (x ∷ xs) ys =
-    sets-append (lib.ListN.set l i x) (suc i) xs ys
-    ∙ ap (λ (k : ℕ). sets (sets (lib.ListN.set l i x) (suc i) xs) k ys) (omega arith)
 
 -- one run of bytes after another is the run of both
 pub written-append : (l : List ℕ) (i : ℕ) (xs ys : List ℕ) → written l i (xs ++ ys) ≡ written (written l i xs) (i + length xs) ys

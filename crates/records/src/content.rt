@@ -70,7 +70,7 @@ fn put_base_arrival(
         number,
         order: order as u32,
     };
-    telegram_writer::put_base_arrival(m, code, part);
+    telegram_forms::put_base_arrival(m, code, part);
 }
 
 fn put_call(
@@ -98,7 +98,7 @@ fn put_call(
         source,
         destination: Number::NONE,
     };
-    telegram_writer::put_call(m, code, part);
+    telegram_forms::put_call(m, code, part);
 }
 
 fn put_caller_notice(
@@ -122,7 +122,7 @@ fn put_caller_notice(
         number,
         order: order as u32,
     };
-    telegram_writer::put_caller_notice(m, code, part);
+    telegram_forms::put_caller_notice(m, code, part);
 }
 
 fn put_capture_reply(part: &mut [u8], code: u32, ch: u8, result: u8)
@@ -133,7 +133,7 @@ fn put_capture_reply(part: &mut [u8], code: u32, ch: u8, result: u8)
         channel: ch as u32,
         result: result as u32,
     };
-    telegram_writer::put_capture_reply(m, code, part);
+    telegram_forms::put_capture_reply(m, code, part);
 }
 
 // The holder's number is for the holder. Any other desk gets none.
@@ -161,7 +161,7 @@ fn put_capture_state(
         number: shown,
         state: state as u32,
     };
-    telegram_writer::put_capture_state(m, code, part);
+    telegram_forms::put_capture_state(m, code, part);
 }
 
 // What a notice about a channel says to desk d.
@@ -210,10 +210,10 @@ pub fn put_body(part: &mut [u8], code: u32, d: u8, body: Body)
     match body {
         Body::About { channel, notice } => put_notice(part, code, d, channel, notice),
         Body::TimeRequest => {
-            telegram_writer::put_time_request(code, part);
+            telegram_forms::put_time_request(code, part);
         }
         Body::OperationRequest => {
-            telegram_writer::put_operation_request(code, part);
+            telegram_forms::put_operation_request(code, part);
         }
     }
 }

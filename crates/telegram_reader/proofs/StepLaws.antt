@@ -1,4 +1,4 @@
--- The reader's steps together are `readIn`.
+-- The reader's steps together are `readIn`, and what they are where no row has the identifier.
 -- Assumes nothing.
 use Prim.Native.Nat.{ℕ, _≤_}
 use mathlib.Core.List.{List, [], _∷_}
@@ -6,10 +6,11 @@ use mathlib.Core.Bool.{Bool, true, false, cond}
 use mathlib.Core.Path.{_≡_, refl, sym, ap}
 use lib.Dec.{eqb, leb, lit≤}
 use lib.ListN.{length}
-use borrow.Author.Tests.{eqb-true, le-leb}
-use Rattle.fields.specs.Fields.{bodyOk, valuesIn, padded}
+use borrow.Author.Tests.{eqb-true, le-leb, ne-eqb}
+use Rattle.fields.specs.Fields.{bodyOk, valuesIn, padded, noFields}
 use Rattle.telegram.specs.Telegram.{Row, table, timeNotice, operationAnswer, timeRequest, baseArrival, operationRequest, call, callerNotice, captureRequest, captureReply, captureState, readRow, readIn}
 use Rattle.telegram_reader.specs.Steps.{knownIn, bodyIn, messageIn}
+use Rattle.telegram.specs.declared.message.Message.the-variants.{TimeRequest}
 use Rattle.telegram.specs.declared.message.Reading.{Reading}
 use Rattle.telegram.specs.declared.message.Reading.the-variants.{Telegram, Refused}
 
@@ -44,3 +45,25 @@ fits =
 
 pub read-steps : (c i : ℕ) (b : List ℕ) → readIn table c i b ≡ stepped table c i b
 read-steps c i b = steps-are table fits c i b
+
+-- ---- an identifier that no row has
+
+-- what a match on the identifiers of the rows leaves to its last arm: D, and that none of them is i
+abbrev pub Apart : List Row → ℕ → Type 0 → Type 0
+Apart [] i D = D
+Apart (r ∷ rs) i D = Apart rs i (D × (i ≡ r .id → ⊥))
+
+pub record Unlisted (rs : List Row) (i : ℕ) : Type 0 where
+  pub known : knownIn rs i ≡ false
+  pub body : (b : List ℕ) → bodyIn rs i b ≡ noFields
+  pub message : (v : List ℕ) → messageIn rs i v ≡ TimeRequest
+
+apart-unlisted : (rs : List Row) (i : ℕ) (D : Type 0) → Apart rs i D → D × Unlisted rs i
+apart-unlisted [] i D a = (a, record { known = refl; body = λ b. refl; message = λ v. refl })
+apart-unlisted (r ∷ rs) i D a =
+    let u = apart-unlisted rs i (D × (i ≡ r .id → ⊥)) a in
+    let e = ne-eqb i (r .id) (u .0 .1) in
+    (u .0 .0, record { known = simp (e, u .1 .known); body = λ b. simp (e, u .1 .body b); message = λ v. simp (e, u .1 .message v) })
+
+pub unlisted : (i : ℕ) → Apart table i (Unit {0}) → Unlisted table i
+unlisted i a = apart-unlisted table i (Unit {0}) a .1

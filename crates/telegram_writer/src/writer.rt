@@ -1,5 +1,5 @@
-// How long a message is as a telegram, whether its numbers can stand in their fields, and `write`, which checks both.
-use super::messages::put;
+// Any message: how long it is as a telegram, `put`, whether its numbers can stand in their fields, and `write`, which checks
+// both before it puts.
 use telegram::BaseArrival;
 use telegram::Call;
 use telegram::CallerNotice;
@@ -12,8 +12,9 @@ use telegram::OperationAnswer;
 use telegram::TimeNotice;
 use telegram::Written;
 ghost use mathlib.Core.Path.{_≡_};
+ghost use Prim.Native.Nat.{_≤_};
 ghost use lib.ListN.{length};
-ghost use Rattle.telegram.specs.Telegram.{inRange, sizeOf, writeAnswer, writeInto};
+ghost use Rattle.telegram.specs.Telegram.{inRange, over, sizeOf, telegramOf, writeAnswer, writeInto};
 
 // How many bytes a message is as a telegram.
 pub fn size(message: Message) -> usize
@@ -30,6 +31,27 @@ pub fn size(message: Message) -> usize
         Message::CaptureRequest(m) => 29,
         Message::CaptureReply(m) => 20,
         Message::CaptureState(m) => 29,
+    }
+}
+
+// Writes a message to the front of a buffer that has room for it, and says how many bytes it is.
+// A number that is too large for its field loses its highest digits: whoever calls this knows the numbers.
+pub fn put(message: Message, code: u32, buffer: &mut [u8]) -> usize
+    requires { ⌜ sizeOf message ≤ length (now buffer) ⌝ }
+    ensures { λ r. ⌜ r ≡ sizeOf message ⌝ }
+    ensures { λ r. ⌜ now (buffer .exit) ≡ over (telegramOf code message) (now (buffer .entry)) ⌝ }
+{
+    match message {
+        Message::TimeNotice(m) => telegram_forms::put_time_notice(m, code, buffer),
+        Message::OperationAnswer(m) => telegram_forms::put_operation_answer(m, code, buffer),
+        Message::TimeRequest => telegram_forms::put_time_request(code, buffer),
+        Message::BaseArrival(m) => telegram_forms::put_base_arrival(m, code, buffer),
+        Message::OperationRequest => telegram_forms::put_operation_request(code, buffer),
+        Message::Call(m) => telegram_forms::put_call(m, code, buffer),
+        Message::CallerNotice(m) => telegram_forms::put_caller_notice(m, code, buffer),
+        Message::CaptureRequest(m) => telegram_forms::put_capture_request(m, code, buffer),
+        Message::CaptureReply(m) => telegram_forms::put_capture_reply(m, code, buffer),
+        Message::CaptureState(m) => telegram_forms::put_capture_state(m, code, buffer),
     }
 }
 

@@ -1,7 +1,8 @@
 -- `telegram_reader::reader::message_of` meets its contract: each arm makes the message of its row.
 -- Assumes nothing.
-use borrow.Author.Tests.{ne-eqb}
+use mathlib.Core.Path.{sym}
 use borrow.Author.Needs.{needs}
+use Rattle.telegram_reader.proofs.StepLaws.{unlisted}
 use Rattle.telegram_reader.proofs.reader.message_of.Statement.{statement}
 use Rattle.telegram_reader.proofs.reader.message_of.Tie as tie
 
@@ -36,9 +37,7 @@ returns-10 : tie.Need-returns-10
 returns-10 c = rw (c .before .match .keys10) (c .capture-state .ensures)
 
 returns-11 : tie.Need-returns-11
-returns-11 c =
-    let r = c .match .rest in
-    simp (ne-eqb _ _ (r .0 .0 .0 .0 .0 .0 .0 .0 .0 .1), ne-eqb _ _ (r .0 .0 .0 .0 .0 .0 .0 .0 .1), ne-eqb _ _ (r .0 .0 .0 .0 .0 .0 .0 .1), ne-eqb _ _ (r .0 .0 .0 .0 .0 .0 .1), ne-eqb _ _ (r .0 .0 .0 .0 .0 .1), ne-eqb _ _ (r .0 .0 .0 .0 .1), ne-eqb _ _ (r .0 .0 .0 .1), ne-eqb _ _ (r .0 .0 .1), ne-eqb _ _ (r .0 .1), ne-eqb _ _ (r .1))
+returns-11 c = sym (unlisted _ (c .match .rest) .message (c .before .args .v))
 
 pub message-of-spec : {M : Type 1} → statement M
 message-of-spec =

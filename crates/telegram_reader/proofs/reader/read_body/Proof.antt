@@ -1,7 +1,8 @@
 -- `telegram_reader::reader::read_body` meets its contract: each arm reads the fields of its row.
 -- Assumes nothing.
-use borrow.Author.Tests.{ne-eqb}
+use mathlib.Core.Path.{sym, _∙_}
 use borrow.Author.Needs.{needs}
+use Rattle.telegram_reader.proofs.StepLaws.{unlisted}
 use Rattle.telegram_reader.proofs.reader.read_body.Statement.{statement}
 use Rattle.telegram_reader.proofs.reader.read_body.Tie as tie
 
@@ -36,9 +37,7 @@ returns-10 : tie.Need-returns-10
 returns-10 c = rw (c .before .before .match .keys10) (c .read-fields10 .ensures)
 
 returns-11 : tie.Need-returns-11
-returns-11 c =
-    let r = c .before .match .rest in
-    simp (ne-eqb _ _ (r .0 .0 .0 .0 .0 .0 .0 .0 .0 .1), ne-eqb _ _ (r .0 .0 .0 .0 .0 .0 .0 .0 .1), ne-eqb _ _ (r .0 .0 .0 .0 .0 .0 .0 .1), ne-eqb _ _ (r .0 .0 .0 .0 .0 .0 .1), ne-eqb _ _ (r .0 .0 .0 .0 .0 .1), ne-eqb _ _ (r .0 .0 .0 .0 .1), ne-eqb _ _ (r .0 .0 .0 .1), ne-eqb _ _ (r .0 .0 .1), ne-eqb _ _ (r .0 .1), ne-eqb _ _ (r .1)) (c .no-fields .ensures)
+returns-11 c = c .no-fields .ensures ∙ sym (unlisted _ (c .before .match .rest) .body _)
 
 pub read-body-spec : {M : Type 1} → statement M
 read-body-spec =
