@@ -8,9 +8,9 @@ use native.Mathlib.Omega.{arith}
 use lib.Dec.{leb, eqb}
 use lib.ListN.{length, take, drop}
 use borrow.Author.Tests.{leb-true, eqb-true}
+use Rattle.laws.proofs.Lists.{part-to-end}
+use Rattle.laws.proofs.Tests.{both}
 use Rattle.fields.specs.Fields.{between}
-use Rattle.fields.proofs.DigitLaws.{both}
-use Rattle.telegram.proofs.TelegramLaws.{part-to-end}
 use Rattle.set_rules.specs.State.{noDesk, noChannel}
 use Rattle.set_rules.specs.Plan.{deskOk, desksOk, desksIn, channelsOk, channelsIn, deskCount, desksPart, channelCount, channelsPart, filled}
 use Rattle.set_rules.specs.declared.state.Desk.{Desk}

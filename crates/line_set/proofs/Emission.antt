@@ -7,6 +7,7 @@ use mathlib.Core.Path.{_≡_, refl, sym, ap, subst, _∙_}
 use native.Mathlib.Omega.{arith}
 use lib.ListN.{length}
 use borrow.Author.Tests.{le-leb, lt-leb}
+use Rattle.laws.proofs.Lists.{none-long}
 use Rattle.lines.specs.Scripts.{any}
 use Rattle.channel.specs.declared.state.Send.{Send}
 use Rattle.records.specs.Emitting.{written}
@@ -33,13 +34,9 @@ accepted t n = record { set = t; count = n; refusal = 0 }
 pub refused : (s : LineSet) (n : ℕ) (b : List ℕ) {r : Answer} → r ≡ answerOf (refuse n s) → Gives (refuse n s) r b b
 refused s n b e = record { answer = e; bytes = refl }
 
-no-length : (xs : List ℕ) → length xs ≡ 0 → xs ≡ []
-no-length [] h = refl
-no-length (x ∷ xs) h = absurd (omega arith)
-
 -- records that take no space are none
 pub unwritten : (b : List ℕ) (ds : List Desk) (vs : List Delivery) → spaceOf vs ≡ 0 → AllEven vs → b ≡ written b 0 (recordsOf ds vs)
-unwritten b ds vs h e = sym (ap (λ (l : List ℕ). written b 0 l) (no-length (recordsOf ds vs) (sym (space-length ds vs e) ∙ h)) ∙ written-none b 0)
+unwritten b ds vs h e = sym (ap (λ (l : List ℕ). written b 0 l) (none-long (recordsOf ds vs) (sym (space-length ds vs e) ∙ h)) ∙ written-none b 0)
 
 module _ (s : LineSet) (f : Effect) (b : List ℕ) where
   pub no-room : {r : Answer} → length b < spaceOf (f .sent) → r ≡ answerOf (refuse 16 s) → Gives (emit s f (length b)) r b b

@@ -8,7 +8,7 @@ use native.Mathlib.Omega.{arith}
 use lib.Dec.{eqb, leb, ltb}
 use lib.ListN.{length}
 use borrow.Author.Tests.{leb-true, eqb-true, ltb-true, ltb-false, ne-eqb}
-use Rattle.fields.proofs.DigitLaws.{both}
+use Rattle.laws.proofs.Tests.{both}
 use Rattle.set_rules.specs.Entries.{byte, measured, payload, sizeOk, payloadOk, readEntry}
 
 kind-is : (k : ℕ) (e : List ℕ) → payload k e .kind ≡ k

@@ -8,6 +8,7 @@ use native.Mathlib.Omega.{arith}
 use lib.Dec.{eqb, ltb}
 use lib.ListN.{length, getD, set}
 use borrow.Author.Tests.{eqb-true, eqb-false, eq-eqb, ne-eqb, ltb-true}
+use Rattle.laws.proofs.Lists.{at-taken}
 use Rattle.telegram.specs.Telegram.{readTelegram, over}
 use Rattle.channel.specs.declared.state.Channel.{Channel}
 use Rattle.set_rules.specs.State.{noChannel, channelsOf, placeOf, hasDesk, deskAt, hasChannel, channelAt, withDesks, withChannels}
@@ -28,7 +29,6 @@ use Rattle.changes.specs.declared.change.Change.{Change}
 use Rattle.line_set.proofs.Asking.{no-desk, with-desk}
 use Rattle.line_set.proofs.ByKind.{two-to-five, line-step, telegram-step, unplanned-step, bad-step, step-gives}
 use Rattle.changes.proofs.Changing.{makes-as}
-use Rattle.line_set.proofs.Seeking.{at-taken}
 use Rattle.line_set.proofs.Lengths.{kind-range}
 use Rattle.line_set.proofs.Lifting.{Found, line-lifts, request-lifts, nothing-lifts}
 

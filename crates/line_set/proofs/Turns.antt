@@ -10,6 +10,7 @@ use native.Mathlib.Omega.{arith}
 use lib.ListN.{length, take, drop, getD, set, drop-of-length-le}
 use lib.Seq.{drop-cons, take-suc, set-at, getD-at, set-getD, length-take-le}
 use borrow.Author.Tests.{eqb-true}
+use Rattle.laws.proofs.Lists.{take-count, drop-count}
 use Rattle.channel.specs.State.{holderPlace}
 use Rattle.line_rules.specs.Rules.{Context, Step, tick, happens}
 use Rattle.channel.specs.declared.state.Channel.{Channel}
@@ -26,7 +27,6 @@ use Rattle.set_rules.specs.declared.state.Desk.{Desk}
 use Rattle.set_rules.specs.declared.state.LineSet.{LineSet}
 use Rattle.changes.specs.Changes.{contextIn}
 use Rattle.line_set.specs.Steps.{sendsIn, sendsFrom}
-use Rattle.line_set.proofs.Seeking.{take-count, drop-count}
 
 space-append : (vs ws : List Delivery) → spaceOf (vs ++ ws) ≡ spaceOf vs + spaceOf ws
 unfolding spaceOf

@@ -1,15 +1,16 @@
 -- Demand 3, its first part: two feeds that differ only in numbers that B may not learn show B the same.
 -- Assumes nothing.
 use Prim.Native.Nat.{ℕ, zero, suc, _+_, _-_, _*_, _/_, _%_, _^_, _≤_}
-use mathlib.Core.List.{List, [], _∷_, _++_, map}
+use mathlib.Core.List.{List, [], _∷_, _++_, map, map-append}
 use mathlib.Core.Bool.{Bool, true, false, _&&_, _||_, not, cond}
 use mathlib.Core.Path.{_≡_, refl, sym, ap, _∙_}
 use native.Mathlib.Omega.{arith}
 use native.Mathlib.Nat.{pow-suc}
 use lib.Dec.{eqb, leb, ltb}
-use lib.ListN.{length, getD, take, drop, set}
+use lib.ListN.{length, length-map, getD, List·getD-map, take, drop, set}
 use lib.Seq.{take-all}
 use borrow.Author.Tests.{le-leb, eq-eqb, ne-eqb}
+use Rattle.laws.proofs.Lists.{take-map, drop-map, map-set}
 use Rattle.fields.specs.Digits.{digitsIn}
 use Rattle.fields.specs.declared.digits.Digits.{Digits}
 use Rattle.fields.specs.declared.digits.Digits.the-variants.{Value, Malformed}
@@ -40,37 +41,6 @@ use Rattle.set_rules.specs.declared.state.Desk.{Desk}
 use Rattle.set_rules.specs.declared.state.LineSet.{LineSet}
 use Rattle.set_rules.specs.declared.state.Entry.{Entry}
 use Rattle.set_rules.proofs.Received.{Like, AllLike, space-like, received-like, like-self, like-append}
-
--- ---- lists of channels
-
-module _ (f : Channel → Channel) where
-  take-map : (n : ℕ) (cs : List Channel) → take n (map f cs) ≡ map f (take n cs)
-  take-map zero cs = refl
-  take-map (suc n) [] = refl
-  take-map (suc n) (c ∷ cs) = ap (λ (l : List Channel). f c ∷ l) (take-map n cs)
-
-  drop-map : (n : ℕ) (cs : List Channel) → drop n (map f cs) ≡ map f (drop n cs)
-  drop-map zero cs = refl
-  drop-map (suc n) [] = refl
-  drop-map (suc n) (c ∷ cs) = drop-map n cs
-
-  length-map : (cs : List Channel) → length (map f cs) ≡ length cs
-  length-map [] = refl
-  length-map (c ∷ cs) = ap suc (length-map cs)
-
-  map-set : (cs : List Channel) (i : ℕ) (c : Channel) → map f (set cs i c) ≡ set (map f cs) i (f c)
-  map-set [] i c = refl
-  map-set (d ∷ cs) zero c = refl
-  map-set (d ∷ cs) (suc i) c = ap (λ (l : List Channel). f d ∷ l) (map-set cs i c)
-
-  map-append : (cs ds : List Channel) → map f (cs ++ ds) ≡ map f cs ++ map f ds
-  map-append [] ds = refl
-  map-append (c ∷ cs) ds = ap (λ (l : List Channel). f c ∷ l) (map-append cs ds)
-
-  getD-map : (cs : List Channel) (i : ℕ) (z : Channel) → f z ≡ z → getD (map f cs) i z ≡ f (getD cs i z)
-  getD-map [] i z e = sym e
-  getD-map (c ∷ cs) zero z e = refl
-  getD-map (c ∷ cs) (suc i) z e = getD-map cs i z e
 
 -- a desk is not in the set of another
 power-other : (B d : ℕ) → (d ≡ B → ⊥) → isIn B (2 ^ d) ≡ false
@@ -111,10 +81,10 @@ module _ (B : ℕ) where
   place-hide n k cs = ap (placeOf k) (take-map (hide B) n cs) ∙ place-map k (take n cs)
 
   count-hide : (n : ℕ) (cs : List Channel) → length (take n (hides cs)) ≡ length (take n cs)
-  count-hide n cs = ap length (take-map (hide B) n cs) ∙ length-map (hide B) (take n cs)
+  count-hide n cs = ap length (take-map (hide B) n cs) ∙ length-map (take n cs) (hide B)
 
   at-hide : (n i : ℕ) (cs : List Channel) → getD (take n (hides cs)) i noChannel ≡ hide B (getD (take n cs) i noChannel)
-  at-hide n i cs = ap (λ (l : List Channel). getD l i noChannel) (take-map (hide B) n cs) ∙ getD-map (hide B) (take n cs) i noChannel refl
+  at-hide n i cs = ap (λ (l : List Channel). getD l i noChannel) (take-map (hide B) n cs) ∙ List·getD-map (hide B) (take n cs) i noChannel
 
   channelAt-hide : (s : LineSet) (ch : ℕ) → channelAt (hideSet s) ch ≡ hide B (channelAt s ch)
   channelAt-hide s ch =

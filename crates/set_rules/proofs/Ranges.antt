@@ -7,8 +7,8 @@ use mathlib.Core.Path.{_≡_, refl, sym, ap, _∙_}
 use native.Mathlib.Omega.{arith}
 use lib.Dec.{eqb, leb, ltb, lit≤, lit<}
 use borrow.Author.Tests.{le-leb, lt-ltb, eq-eqb, leb-true}
+use Rattle.laws.proofs.Tests.{both}
 use Rattle.fields.specs.Fields.{allIn, between}
-use Rattle.fields.proofs.DigitLaws.{both}
 use Rattle.telegram.specs.Telegram.{num, inRange, sendable}
 use Rattle.telegram.specs.declared.message.Number.{Number}
 use Rattle.telegram.specs.declared.message.Message.{Message}

@@ -9,11 +9,14 @@ use native.Mathlib.Nat.{pow-le-pow-right}
 use lib.Dec.{eqb, leb, ltb}
 use lib.ListN.{length, length-take, take, drop, getD, set, replicate}
 use borrow.Author.Tests.{leb-true, le-leb, eqb-true, eq-eqb}
+use Rattle.laws.specs.Each.{Each}
+use Rattle.laws.proofs.Each.{each-at, each-set, each-take, each-drop, each-append, each-same}
+use Rattle.laws.proofs.Tests.{both}
 use Rattle.fields.specs.Digits.{allDigits, valueOf, digitsIn}
 use Rattle.fields.specs.Fields.{allIn, between}
 use Rattle.fields.specs.declared.digits.Digits.{Digits}
 use Rattle.fields.specs.declared.digits.Digits.the-variants.{Value, Malformed}
-use Rattle.fields.proofs.DigitLaws.{both, value-below}
+use Rattle.fields.proofs.DigitLaws.{value-below}
 use Rattle.telegram.specs.Telegram.{num, nth, inRange, rowOf, valuesOf, readTelegram, telegramOf}
 use Rattle.telegram.specs.declared.message.Message.{Message}
 use Rattle.telegram.specs.declared.message.Message.the-variants.{TimeRequest, OperationRequest}
@@ -34,14 +37,13 @@ use Rattle.set_rules.specs.Refusals.{refusalOf}
 use Rattle.set_rules.specs.Records.{Delivery, delivered}
 use Rattle.set_rules.specs.SetRules.{Effect, effect, telegramTo, contextOf, happensIn, nextsOf, sendsOf, onChannel, byHolder, onTick, onHandover, onPlan, onReading, timeTaken, answerTaken, numberIn, accepted}
 use Rattle.set_rules.specs.Feeds.{Item, stepOf, stepBy, after}
-use Rattle.set_rules.specs.Invariant.{NumberOk, ChannelOk, DeskOk, Each, SetOk}
+use Rattle.set_rules.specs.Invariant.{NumberOk, ChannelOk, DeskOk, SetOk}
 use Rattle.set_rules.specs.Promises.{AllRead, Readable, InRange}
 use Rattle.set_rules.specs.declared.state.Link.{Link}
 use Rattle.set_rules.specs.declared.state.Desk.{Desk}
 use Rattle.set_rules.specs.declared.state.LineSet.{LineSet}
 use Rattle.set_rules.specs.declared.state.Entry.{Entry}
 use Rattle.set_rules.proofs.Answers.{refused, accepted-after}
-use Rattle.set_rules.proofs.Each.{each-at, each-set, each-take, each-drop, each-append, each-same}
 use Rattle.set_rules.proofs.Rows.{rows-fail}
 use Rattle.set_rules.proofs.Ranges.{ContentOk, NoticeOk, in-range, SendsOk, StepOk, EventOk, happens-ok}
 

@@ -8,7 +8,9 @@ use native.Mathlib.Omega.{arith}
 use lib.Dec.{eqb, leb, ltb}
 use lib.ListN.{length, drop}
 use borrow.Author.Tests.{leb-true, leb-false, lt-ltb, eqb-true, eqb-false, eq-eqb}
-use Rattle.fields.proofs.DigitLaws.{both}
+use Rattle.laws.specs.Each.{Each}
+use Rattle.laws.proofs.Each.{each-at, each-set, each-take, each-drop, each-append, each-same}
+use Rattle.laws.proofs.Tests.{both}
 use Rattle.telegram.specs.Telegram.{nth, rowOf, valuesOf, readTelegram}
 use Rattle.telegram.specs.declared.message.Reading.{Reading}
 use Rattle.telegram.specs.declared.message.Reading.the-variants.{Telegram, Refused}
@@ -28,12 +30,11 @@ use Rattle.set_rules.specs.Plan.{channelsIn, channelCount, channelsPart,
 use Rattle.set_rules.specs.Refusals.{refusalOf}
 use Rattle.set_rules.specs.SetRules.{Effect, contextOf, nextsOf, onChannel, onTick, onHandover, onPlan, onReading, numberIn, accepted}
 use Rattle.set_rules.specs.Feeds.{Item, stepBy, after}
-use Rattle.set_rules.specs.Invariant.{Timed, Each}
+use Rattle.set_rules.specs.Invariant.{Timed}
 use Rattle.set_rules.specs.Promises.{TimersRun}
 use Rattle.set_rules.specs.declared.state.LineSet.{LineSet}
 use Rattle.set_rules.specs.declared.state.Entry.{Entry}
 use Rattle.set_rules.proofs.Answers.{refused, accepted-after}
-use Rattle.set_rules.proofs.Each.{each-at, each-set, each-take, each-drop, each-append, each-same}
 use Rattle.set_rules.proofs.Rows.{rows-fail}
 
 either : (t : Bool) (a b : Step) → (t ≡ true → Timed (a .next)) → (t ≡ false → Timed (b .next)) → Timed (cond t a b .next)

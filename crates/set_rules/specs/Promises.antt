@@ -4,6 +4,7 @@ use mathlib.Core.List.{List, [], _∷_, _++_, map}
 use mathlib.Core.Bool.{true, false}
 use mathlib.Core.Path.{_≡_}
 use lib.ListN.{length, replicate, getD}
+use Rattle.laws.specs.Each.{Each}
 use Rattle.fields.specs.Digits.{digitsOf, digitsIn}
 use Rattle.telegram.specs.Telegram.{readTelegram, telegramOf}
 use Rattle.telegram.specs.Promises.{dv, Marked as ReaderMarked}
@@ -20,7 +21,7 @@ use Rattle.set_rules.specs.Entries.{readEntry}
 use Rattle.set_rules.specs.Refusals.{isCaller}
 use Rattle.set_rules.specs.Records.{measuredBytes, Delivery, delivered, recordsOf}
 use Rattle.set_rules.specs.SetRules.{contextOf, accepted}
-use Rattle.set_rules.specs.Invariant.{SetOk, Timed, Each}
+use Rattle.set_rules.specs.Invariant.{SetOk, Timed}
 use Rattle.set_rules.specs.Feeds.{Outcome, Item, stepOf, stepBy, run, after, Seen, views}
 use Rattle.set_rules.specs.declared.state.Desk.{Desk}
 use Rattle.set_rules.specs.declared.state.LineSet.{LineSet}

@@ -9,9 +9,12 @@ use lib.ListN.{length, length-append, length-drop, getD, take, drop, take-append
 use lib.Seq.{take-at, drop-at, drop-drop, length-take-le}
 use lib.Dec.{leb, ltb, eqb, lit<}
 use borrow.Author.Tests.{leb-true, le-leb, lt-ltb, eqb-true, eq-eqb}
+use Rattle.laws.specs.Each.{Each}
+use Rattle.laws.proofs.Lists.{tab, tab-all}
+use Rattle.laws.proofs.Tests.{both}
 use Rattle.fields.specs.Digits.{digitsOf, allDigits, valueOf}
 use Rattle.fields.specs.Fields.{Field, plain, length4, code, len, inRange as fits, bodyOk, valuesIn, allIn, bytesOf}
-use Rattle.fields.proofs.DigitLaws.{both, length-digits, digits-digits, value-digits, digits-value}
+use Rattle.fields.proofs.DigitLaws.{length-digits, digits-digits, value-digits, digits-value}
 use Rattle.fields.proofs.FieldLaws.{read-written, written-read, length-bytes, same-count}
 use Rattle.telegram.specs.Telegram.{Row, nth, timeNotice, operationAnswer, timeRequest, baseArrival, operationRequest, call, callerNotice, captureRequest, captureReply, captureState, table, readRow, readIn, heading, headerOk, readTelegram, rowOf, valuesOf, sizeOf, headed, telegramOf, inRange, sendable}
 use Rattle.telegram.specs.Promises.{ReadsBack, WrittenForm, OneForm}
@@ -155,10 +158,6 @@ headed-read (x ∷ y ∷ r) h e =
 abbrev RowLaw : Row → Type 0
 RowLaw r = (vs : List ℕ) → allIn (r .body) 0 0 vs ≡ true → (rowOf (r .make vs) ≡ r) × (valuesOf (r .make vs) ≡ vs)
 
-abbrev Each : List Row → Type 0
-Each [] = Unit {0}
-Each (r ∷ rs) = RowLaw r × Each rs
-
 -- a message that was read from a body is written as that body
 record Back (c i k : ℕ) (b : List ℕ) (m : Message) : Type 0 where
   code-is : c ≡ k
@@ -180,7 +179,7 @@ row-back r law c k b m e = go (bodyOk (r .body) 0 0 b) refl
         record { code-is = cc; id-is = rw p; values-in = rw (p, q) (w .0); bytes-are = rw (p, q) (w .1) }
     go false h = absurd (let f : Refused 10 c (r .id) ≡ Telegram k m = rw h at e in let z : _≡_ {A = ℕ} 0 1 = cc in omega arith)
 
-table-back : (rs : List Row) → Each rs → (c i k : ℕ) (b : List ℕ) (m : Message) → readIn rs c i b ≡ Telegram k m → Back c i k b m
+table-back : (rs : List Row) → Each RowLaw rs → (c i k : ℕ) (b : List ℕ) (m : Message) → readIn rs c i b ≡ Telegram k m → Back c i k b m
 table-back [] laws c i k b m e = absurd (let z : _≡_ {A = ℕ} 0 1 = cc in omega arith)
 table-back (r ∷ rs) laws c i k b m e = go (eqb i (r .id)) refl (table-back rs (laws .1) c i k b m)
   where
@@ -191,18 +190,8 @@ table-back (r ∷ rs) laws c i k b m e = go (eqb i (r .id)) refl (table-back rs 
         record { code-is = a .code-is; id-is = a .id-is ∙ sym (eqb-true _ _ h); values-in = a .values-in; bytes-are = a .bytes-are }
     go false h rest = rest (rw h at e)
 
--- a list is its elements one by one
-tab : ℕ → (ℕ → ℕ) → List ℕ
-tab zero f = []
-tab (suc n) f = f 0 ∷ tab n (λ i. f (suc i))
-
-tab-all : (vs : List ℕ) → tab (length vs) (λ i. getD vs i 0) ≡ vs
-unfolding tab
-tab-all [] = refl
-tab-all (v ∷ vs) = ap (λ (l : List ℕ). v ∷ l) (tab-all vs)
-
 spread : (fs : List Field) (vs : List ℕ) → allIn fs 0 0 vs ≡ true → tab (length fs) (λ i. getD vs i 0) ≡ vs
-spread fs vs h = rw (same-count fs 0 0 vs h) (tab-all vs)
+spread fs vs h = rw (same-count fs 0 0 vs h) (tab-all vs 0)
 
 -- a len field's number is 8
 eight : (fs : List Field) (y m : ℕ) (vs : List ℕ) (i : ℕ) → allIn fs y m vs ≡ true → getD fs i (plain 0) ≡ len → nth vs i ≡ 8
@@ -260,7 +249,7 @@ capture-state vs h =
     let a : nth vs 1 ≡ 8 = eight (captureState .body) 0 0 vs 1 h refl in
     (refl, rw a at (spread (captureState .body) vs h))
 
-laws : Each table
+laws : Each RowLaw table
 laws =
     (time-notice, (operation-answer, (time-request, (base-arrival, (operation-request, (call-start-end, (caller-notice, (capture-request, (capture-reply, (capture-state, tt))))))))))
 

@@ -7,6 +7,7 @@ use mathlib.Core.Path.{_≡_, refl, sym, ap}
 use lib.Dec.{eqb, leb, lit≤}
 use lib.ListN.{length}
 use borrow.Author.Tests.{eqb-true, le-leb}
+use Rattle.laws.specs.Each.{Each}
 use Rattle.fields.specs.Fields.{bodyOk, valuesIn, padded}
 use Rattle.telegram.specs.Telegram.{Row, table, timeNotice, operationAnswer, timeRequest, baseArrival, operationRequest, call, callerNotice, captureRequest, captureReply, captureState, readRow, readIn}
 use Rattle.telegram_reader.specs.Steps.{knownIn, bodyIn, messageIn}
@@ -18,16 +19,12 @@ record Fits (r : Row) : Type 0 where
   few : length (r .body) ≤ 11
   same : (b : List ℕ) → r .make (padded (valuesIn (r .body) b)) ≡ r .make (valuesIn (r .body) b)
 
-abbrev Each : List Row → Type 0
-Each [] = Unit {0}
-Each (r ∷ rs) = Fits r × Each rs
-
 -- the steps, put together
 abbrev pub stepped : List Row → ℕ → ℕ → List ℕ → Reading
 stepped rs c i b =
     cond (knownIn rs i) (cond (bodyIn rs i b .ok) (Telegram c (messageIn rs i (bodyIn rs i b .values))) (Refused 10 c i)) (Refused 9 c i)
 
-steps-are : (rs : List Row) → Each rs → (c i : ℕ) (b : List ℕ) → readIn rs c i b ≡ stepped rs c i b
+steps-are : (rs : List Row) → Each Fits rs → (c i : ℕ) (b : List ℕ) → readIn rs c i b ≡ stepped rs c i b
 steps-are [] fit c i b = refl
 steps-are (r ∷ rs) fit c i b = go (eqb i (r .id)) refl (bodyOk (r .body) 0 0 b) refl (steps-are rs (fit .1) c i b)
   where
@@ -37,7 +34,7 @@ steps-are (r ∷ rs) fit c i b = go (eqb i (r .id)) refl (bodyOk (r .body) 0 0 b
     go true h false k rest = simp (h, k, le-leb (length (r .body)) 11 (fit .0 .few)) (ap (Refused 10 c) (sym (eqb-true i (r .id) h)))
     go false h u k rest = simp h rest
 
-fits : Each table
+fits : Each Fits table
 unfolding valuesIn
 fits =
     (record { few = lit≤ tt; same = λ b. refl }, (record { few = lit≤ tt; same = λ b. refl }, (record { few = lit≤ tt; same = λ b. refl }, (record { few = lit≤ tt; same = λ b. refl }, (record { few = lit≤ tt; same = λ b. refl }, (record { few = lit≤ tt; same = λ b. refl }, (record { few = lit≤ tt; same = λ b. refl }, (record { few = lit≤ tt; same = λ b. refl }, (record { few = lit≤ tt; same = λ b. refl }, (record { few = lit≤ tt; same = λ b. refl }, tt))))))))))

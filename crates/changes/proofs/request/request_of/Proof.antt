@@ -6,8 +6,8 @@ use mathlib.Core.Path.{ap, ap₂, _∙_}
 use lib.ListN.{drop}
 use borrow.Author.Tests.{eq-eqb, ne-eqb, lt-ltb, le-ltb, not-true, not-false}
 use denote.Ref.{now}
+use Rattle.laws.proofs.Lists.{part-to-end}
 use Rattle.telegram.specs.Telegram.{readTelegram}
-use Rattle.telegram.proofs.TelegramLaws.{part-to-end}
 use Rattle.set_rules.specs.declared.state.Desk.{Desk}
 use Rattle.changes.specs.Requests.{requestIn, requestFor}
 use Rattle.changes.proofs.Places.{past-five}

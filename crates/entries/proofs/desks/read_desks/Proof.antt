@@ -9,7 +9,7 @@ use native.Mathlib.Nat.{sub-zero}
 use native.Mathlib.Numerals.{add-one}
 use lib.ListN.{length, drop, length-set}
 use lib.Seq.{sets}
-use Rattle.telegram.proofs.TelegramLaws.{part-to-end}
+use Rattle.laws.proofs.Lists.{part-to-end}
 use Rattle.set_rules.specs.State.{noDesk}
 use Rattle.set_rules.specs.Plan.{desksOk, desksIn, filled}
 use Rattle.entries.specs.Planned.{deskIn, desksRead}

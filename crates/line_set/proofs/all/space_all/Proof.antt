@@ -4,10 +4,11 @@ use Prim.Native.Nat.{_-_, _≤_, _<_}
 use mathlib.Core.Path.{_≡_, sym, ap, _∙_}
 use native.Mathlib.Omega.{arith}
 use lib.ListN.{length, set, length-map}
+use Rattle.laws.proofs.Lists.{at-taken}
 use Rattle.channel.specs.declared.state.Channel.{Channel}
 use Rattle.set_rules.specs.State.{noChannel, channelsOf}
 use borrow.Author.Needs.{needs}
-use Rattle.line_set.proofs.Seeking.{count-is, at-taken}
+use Rattle.line_set.proofs.Seeking.{count-is}
 use Rattle.set_rules.specs.Records.{delivered, spaceOf}
 use Rattle.line_set.specs.Steps.{sendsIn}
 use Rattle.line_set.proofs.Turns.{Summed, sum-first, sum-next, sum-last, sends-from}

@@ -9,20 +9,19 @@ use lib.Dec.{eqb}
 use lib.ListN.{length, length-map}
 use denote.Ref.{now}
 use borrow.Author.Tests.{eq-eqb, ne-eqb, eqb-true}
-use Rattle.fields.proofs.DigitLaws.{both}
-use Rattle.telegram.proofs.TelegramLaws.{part-to-end}
+use Rattle.laws.proofs.Lists.{part-to-end, any-default, at-taken}
+use Rattle.laws.proofs.Tests.{both}
 use Rattle.channel.specs.declared.state.Channel.{Channel}
 use Rattle.set_rules.specs.State.{noChannel, channelsOf, placeOf}
 use Rattle.set_rules.specs.Entries.{readEntry}
 use Rattle.set_rules.specs.declared.state.Entry.{Entry}
-use Rattle.set_rules.proofs.Elements.{any-default}
 use Rattle.line_set.specs.Steps.{planOutcome}
 use borrow.Author.Needs.{needs}
 use Rattle.line_set.proofs.ByKind.{tick-step, handover-step, plan-step, step-gives}
 use Rattle.line_set.proofs.Emission.{gives-as}
 use Rattle.line_set.proofs.Lengths.{long-enough, kind-read}
 use Rattle.line_set.proofs.OneStep.{finished}
-use Rattle.line_set.proofs.Seeking.{Sought, sought-first, sought-next, sought-found, sought-last, count-is, at-taken}
+use Rattle.line_set.proofs.Seeking.{Sought, sought-first, sought-next, sought-found, sought-last, count-is}
 use Rattle.line_set.proofs.entry.step.Statement.{statement}
 use Rattle.line_set.proofs.entry.step.Tie as tie
 

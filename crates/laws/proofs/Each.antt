@@ -3,7 +3,7 @@
 use Prim.Native.Nat.{ℕ, zero, suc}
 use mathlib.Core.List.{List, [], _∷_, _++_}
 use lib.ListN.{take, drop, getD, set, replicate}
-use Rattle.set_rules.specs.Invariant.{Each}
+use Rattle.laws.specs.Each.{Each}
 
 module _ {A : Type 0} (P : A → Type 0) where
   pub each-at : (xs : List A) (z : A) → Each P xs → P z → (i : ℕ) → P (getD xs i z)

@@ -1,0 +1,33 @@
+-- Tests put together, and choices by a test.
+-- Assumes nothing.
+use mathlib.Core.Bool.{Bool, true, false, _&&_, _||_, cond, false≢true, true≢false}
+use mathlib.Core.Path.{_≡_, refl}
+
+-- both halves of a conjunction
+pub both : (a b : Bool) → (a && b) ≡ true → (a ≡ true) × (b ≡ true)
+both true b e = (refl, e)
+both false b e = absurd (false≢true e)
+
+-- both halves of a disjunction that fails
+pub neither : (a b : Bool) → (a || b) ≡ false → (a ≡ false) × (b ≡ false)
+neither true b e = absurd (true≢false e)
+neither false b e = (refl, e)
+
+-- what holds of both branches holds of the choice
+pub either : {A : Type 0} (P : A → Type 0) (t : Bool) (a b : A) → P a → P b → P (cond t a b)
+either P true a b p q = p
+either P false a b p q = q
+
+-- a function of a choice
+pub cond-of : {A B : Type 0} (f : A → B) (t : Bool) (a b : A) → f (cond t a b) ≡ cond t (f a) (f b)
+cond-of f true a b = refl
+cond-of f false a b = refl
+
+-- a choice that is not its second branch is its first, and the other way round
+pub cond-taken : {A : Type 0} (t : Bool) (a b : A) {c : A} → cond t a b ≡ c → (b ≡ c → ⊥) → (t ≡ true) × (a ≡ c)
+cond-taken true a b e n = (refl, e)
+cond-taken false a b e n = absurd (n e)
+
+pub cond-left : {A : Type 0} (t : Bool) (a b : A) {c : A} → cond t a b ≡ c → (a ≡ c → ⊥) → (t ≡ false) × (b ≡ c)
+cond-left true a b e n = absurd (n e)
+cond-left false a b e n = (refl, e)
