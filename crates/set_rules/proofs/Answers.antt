@@ -14,7 +14,7 @@ use Rattle.telegram.specs.Telegram.{telegramOf, sizeOf, rowOf, valuesOf, readTe
 use Rattle.telegram.specs.declared.message.Message.{Message}
 use Rattle.telegram.specs.declared.message.Reading.{Reading}
 use Rattle.telegram.specs.declared.message.Reading.the-variants.{Telegram, Refused as NotRead}
-use Rattle.telegram.proofs.SizeLaws.{length-telegram}
+use Rattle.telegram.proofs.Kept.{length-telegram}
 use Rattle.channel.specs.State.{isIn}
 use Rattle.line_rules.specs.Notices.{Content, telegram, contact, contentFor}
 use Rattle.channel.specs.declared.state.Channel.{Channel}

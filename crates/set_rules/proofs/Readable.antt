@@ -16,13 +16,13 @@ use Rattle.fields.specs.Digits.{allDigits, valueOf, digitsIn}
 use Rattle.fields.specs.Fields.{allIn, between}
 use Rattle.fields.specs.declared.digits.Digits.{Digits}
 use Rattle.fields.specs.declared.digits.Digits.the-variants.{Value, Malformed}
-use Rattle.fields.proofs.DigitLaws.{value-below}
+use Rattle.fields.proofs.Kept.{value-below}
 use Rattle.telegram.specs.Telegram.{num, nth, inRange, rowOf, valuesOf, readTelegram, telegramOf}
 use Rattle.telegram.specs.declared.message.Message.{Message}
 use Rattle.telegram.specs.declared.message.Message.the-variants.{TimeRequest, OperationRequest}
 use Rattle.telegram.specs.declared.message.Reading.{Reading}
 use Rattle.telegram.specs.declared.message.Reading.the-variants.{Telegram, Refused}
-use Rattle.telegram.proofs.RoundTrip.{reads-back}
+use Rattle.telegram.proofs.Kept.{reads-back}
 use Rattle.channel.specs.State.{only, firstDesks, holderPlace}
 use Rattle.line_rules.specs.Rules.{Step, happens}
 use Rattle.line_rules.specs.Notices.{Content, telegram, contact, contentFor}

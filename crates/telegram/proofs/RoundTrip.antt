@@ -14,8 +14,7 @@ use Rattle.laws.proofs.Lists.{tab, tab-all}
 use Rattle.laws.proofs.Tests.{both}
 use Rattle.fields.specs.Digits.{digitsOf, allDigits, valueOf}
 use Rattle.fields.specs.Fields.{Field, plain, length4, code, len, inRange as fits, bodyOk, valuesIn, allIn, bytesOf}
-use Rattle.fields.proofs.DigitLaws.{length-digits, digits-digits, value-digits, digits-value}
-use Rattle.fields.proofs.FieldLaws.{read-written, written-read, length-bytes, same-count}
+use Rattle.fields.proofs.Kept.{length-digits, digits-digits, value-digits, digits-value, read-written, written-read, length-bytes, same-count}
 use Rattle.telegram.specs.Telegram.{Row, nth, timeNotice, operationAnswer, timeRequest, baseArrival, operationRequest, call, callerNotice, captureRequest, captureReply, captureState, table, readRow, readIn, heading, headerOk, readTelegram, rowOf, valuesOf, sizeOf, headed, telegramOf, inRange, sendable}
 use Rattle.telegram.specs.Promises.{ReadsBack, WrittenForm, OneForm}
 use Rattle.telegram.specs.declared.message.Message.{Message}
@@ -23,7 +22,7 @@ use Rattle.telegram.specs.declared.message.Message.the-variants.{TimeNot
 use Rattle.telegram.specs.declared.message.Reading.{Reading}
 use Rattle.telegram.specs.declared.message.Reading.the-variants.{Telegram, Refused}
 use Rattle.telegram.proofs.SizeLaws.{size-most}
-use Rattle.telegram.proofs.TelegramLaws.{header-tests}
+use Rattle.telegram.proofs.HeaderLaws.{header-tests, header-long}
 
 -- ---- from a message to bytes and back
 
@@ -134,12 +133,12 @@ len-in y m v h = eqb-true v 8 (both (ltb v (10 ^ 1)) (eqb v 8) h .1)
 headed-read : (s : List ℕ) → headerOk s ≡ true → allDigits (take 6 (drop 10 s)) ≡ true
     → (s ≡ headed (length s) (nth (heading s) 1) (valueOf (take 6 (drop 10 s))) (drop 16 s)) × (nth (heading s) 1 ≤ 1023)
 unfolding valuesIn allIn
-headed-read [] h e = absurd (omega (arith, leb-true 16 0 (header-tests [] h .long)))
-headed-read (x ∷ []) h e = absurd (omega (arith, leb-true 16 1 (header-tests (x ∷ []) h .long)))
+headed-read [] h e = absurd (omega (arith, header-long [] h))
+headed-read (x ∷ []) h e = absurd (omega (arith, header-long (x ∷ []) h))
 headed-read (x ∷ y ∷ r) h e =
     let s = x ∷ y ∷ r in
     let q = header-tests s h in
-    let l : 16 ≤ length s = leb-true 16 (length s) (q .long) in
+    let l : 16 ≤ length s = q .long in
     let w = written-read (length4 ∷ code ∷ []) 0 0 (take 8 r) (q .fields) in
     let n : valueOf (take 4 (take 8 r)) ≡ length s = eqb-true _ _ (q .total) in
     let g : 6 ≤ length (drop 8 r) = simp length-drop (omega arith) in
@@ -265,7 +264,7 @@ written-form s c m e = go (headerOk s) refl (allDigits (take 6 (drop 10 s))) ref
         let k : c ≤ 1023 = rw (a .code-is) at (r .1) in
         let b = length-bytes (rowOf m .body) (valuesOf m) (same-count _ 0 0 _ (a .values-in)) in
         let n : length s ≡ sizeOf m =
-        omega (arith, b, length-drop 16 s, ap length (a .bytes-are), leb-true 16 (length s) (header-tests s h .long)) in
+        omega (arith, b, length-drop 16 s, ap length (a .bytes-are), header-long s h) in
         (simp (le-leb c 1023 k, a .values-in), r .0 ∙ (rw (n, a .code-is, ← a .id-is, ← a .bytes-are)))
     go true h false d = absurd (let f : Refused 9 (nth (heading s) 1) 0 ≡ Telegram c m = rw (h, d) at e in let z : _≡_ {A = ℕ} 0 1 = cc in omega arith)
     go false h u d = absurd (let f : Refused 8 0 0 ≡ Telegram c m = rw h at e in let z : _≡_ {A = ℕ} 0 1 = cc in omega arith)

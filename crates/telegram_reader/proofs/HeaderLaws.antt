@@ -6,9 +6,8 @@ use mathlib.Core.Bool.{Bool, true, false}
 use mathlib.Core.Path.{_≡_, refl}
 use native.Mathlib.Omega.{arith}
 use lib.ListN.{length}
-use borrow.Author.Tests.{leb-true}
 use Rattle.telegram.specs.Telegram.{nth, heading, headerOk}
-use Rattle.telegram.proofs.TelegramLaws.{header-tests}
+use Rattle.telegram.proofs.Kept.{header-long as long-header}
 use Rattle.telegram_reader.specs.Steps.{headerOf}
 use Rattle.telegram_reader.specs.declared.reader.Header.the-variants.{Code, Bad}
 
@@ -27,4 +26,4 @@ header-none s e = go (headerOk s) refl
     go false h = h
 
 pub header-long : (s : List ℕ) (k : ℕ) → headerOf s ≡ Code k → 16 ≤ length s
-header-long s k e = leb-true 16 (length s) (header-tests s (header-found s k e .0) .long)
+header-long s k e = long-header s (header-found s k e .0)
