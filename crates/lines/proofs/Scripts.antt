@@ -7,6 +7,7 @@ use mathlib.Core.Path.{_≡_, refl}
 use native.Mathlib.Omega.{arith}
 use lib.Dec.{eqb}
 use borrow.Author.Tests.{lt-ltb, le-ltb, eqb-true, eqb-false}
+use Rattle.laws.proofs.Tests.{either}
 use Rattle.channel.specs.State.{isHeld, heldBy, isPresent}
 use Rattle.line_rules.specs.Rules.{Context, Step, to, when, endOf, mobileOffSends, isOpen, captureAt, capture, release, cut, handover}
 use Rattle.timers.specs.Falls.{runOut}
@@ -90,14 +91,9 @@ pub any-capture : (x : Context) (d : ℕ) (c : Channel) → any (capture x d c .
 unfolding capture
 any-capture x d c = any-captureAt (c .holder) x d c
 
--- a choice between two steps that both send something
-either : (t : Bool) (a b : Step) → any (a .sends) ≡ true → any (b .sends) ≡ true → any (cond t a b .sends) ≡ true
-either true a b p q = p
-either false a b p q = q
-
 pub any-release : (x : Context) (d : ℕ) (c : Channel) → any (release x d c .sends) ≡ true
 unfolding release
-any-release x d c = either (heldBy d (c .holder)) _ _ refl refl
+any-release x d c = either (λ (st : Step). any (st .sends) ≡ true) (heldBy d (c .holder)) _ _ refl refl
 
 pub any-cut : (x : Context) (c : Channel) → any (cut x c .sends) ≡ true
 unfolding cut

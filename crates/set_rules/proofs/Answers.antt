@@ -10,6 +10,8 @@ use lib.Count.{onesIn}
 use lib.Dec.{eqb, leb}
 use lib.ListN.{length, length-append, getD}
 use borrow.Author.Tests.{eqb-true, eqb-false, eq-eqb}
+use Rattle.laws.specs.Each.{Each}
+use Rattle.laws.proofs.Each.{each-append}
 use Rattle.telegram.specs.Telegram.{telegramOf, sizeOf, rowOf, valuesOf, readTelegram}
 use Rattle.telegram.specs.declared.message.Message.{Message}
 use Rattle.telegram.specs.declared.message.Reading.{Reading}
@@ -52,8 +54,7 @@ abbrev pub Even : Delivery → Type 0
 Even v = (d : ℕ) → recordSize (v .content d) ≡ recordSize (v .content 0)
 
 abbrev pub AllEven : List Delivery → Type 0
-AllEven [] = Unit {0}
-AllEven (v ∷ vs) = Even v × AllEven vs
+AllEven = Each Even
 
 pub record-length : (ds : List Desk) (d : ℕ) (x : Content) → length (recordFor ds d x) ≡ recordSize x
 record-length ds d (telegram m) = let l = length-telegram (getD ds d noDesk .code) m in omega arith
@@ -114,14 +115,10 @@ unfolding delivered
 even-sends ch [] = tt
 even-sends ch (s ∷ ss) = (even-notice ch (s .notice), even-sends ch ss)
 
-even-append : (vs ws : List Delivery) → AllEven vs → AllEven ws → AllEven (vs ++ ws)
-even-append [] ws e f = f
-even-append (v ∷ vs) ws e f = (e .0, even-append vs ws (e .1) f)
-
 pub even-all : (s : LineSet) (v : Event) (cs : List Channel) → AllEven (sendsOf s v cs)
 unfolding sendsOf
 even-all s v [] = tt
-even-all s v (c ∷ cs) = even-append (delivered (c .code) (happensIn s v c .sends)) (sendsOf s v cs) (even-sends (c .code) (happensIn s v c .sends)) (even-all s v cs)
+even-all s v (c ∷ cs) = each-append Even (delivered (c .code) (happensIn s v c .sends)) (sendsOf s v cs) (even-sends (c .code) (happensIn s v c .sends)) (even-all s v cs)
 
 pub even-on : (s : LineSet) (ch d : ℕ) (v : Event) → AllEven (onChannel s ch d v .sent)
 unfolding onChannel

@@ -1,13 +1,15 @@
 -- What a channel in range sends is in range, and it stays in range.
 -- Assumes nothing.
 use Prim.Native.Nat.{ℕ, zero, suc, _-_, _^_, _≤_, _<_}
-use mathlib.Core.List.{List, [], _∷_, _++_}
+use mathlib.Core.List.{List, [], _++_}
 use mathlib.Core.Bool.{Bool, true, false, _&&_, _||_, cond}
 use mathlib.Core.Path.{_≡_, refl, sym, ap, _∙_}
 use native.Mathlib.Omega.{arith}
 use lib.Dec.{eqb, leb, ltb, lit≤, lit<}
 use borrow.Author.Tests.{le-leb, lt-ltb, eq-eqb, leb-true}
-use Rattle.laws.proofs.Tests.{both}
+use Rattle.laws.specs.Each.{Each}
+use Rattle.laws.proofs.Each.{each-append}
+use Rattle.laws.proofs.Tests.{both, either}
 use Rattle.fields.specs.Fields.{allIn, between}
 use Rattle.telegram.specs.Telegram.{num, inRange, sendable}
 use Rattle.telegram.specs.declared.message.Number.{Number}
@@ -102,25 +104,15 @@ in-range d ch (CaptureState h′ n s) h k = go (eqb h′ d)
 
 -- ---- what a rule sends, and the channel after it
 
+abbrev pub SendOk : Send → Type 0
+SendOk s = NoticeOk (s .notice)
+
 abbrev pub SendsOk : List Send → Type 0
-SendsOk [] = Unit {0}
-SendsOk (s ∷ ss) = NoticeOk (s .notice) × SendsOk ss
-
-append-ok : (ss ts : List Send) → SendsOk ss → SendsOk ts → SendsOk (ss ++ ts)
-append-ok [] ts a b = b
-append-ok (s ∷ ss) ts a b = (a .0, append-ok ss ts (a .1) b)
-
-when-ok : (t : Bool) (ss : List Send) → SendsOk ss → SendsOk (when t ss)
-when-ok true ss a = a
-when-ok false ss a = tt
+SendsOk = Each SendOk
 
 pub record StepOk (st : Step) : Type 0 where
   pub next-ok : ChannelOk (st .next)
   pub sends-ok : SendsOk (st .sends)
-
-either : (t : Bool) (a b : Step) → StepOk a → StepOk b → StepOk (cond t a b)
-either true a b p q = p
-either false a b p q = q
 
 -- an event in range
 abbrev pub EventOk : Event → Type 0
@@ -179,14 +171,14 @@ module _ (x : Context) (own : NumberOk (x .own)) (c : Channel) (ok : ChannelOk c
   cut-ok = record {
     next-ok = record { code-ok = ok .code-ok; call-ok = tt; arrival-ok = ok .arrival-ok };
     sends-ok =
-        append-ok (when (c .pressed) (pressOffSends x c)) (endOf 1 (c .call) ++ freedSends x c) (when-ok (c .pressed) (pressOffSends x c) press-off-ok)
-        (append-ok (endOf 1 (c .call)) (freedSends x c) (end-ok 1 (omega arith) (c .call) (ok .call-ok)) freed-ok);
+        each-append SendOk (when (c .pressed) (pressOffSends x c)) (endOf 1 (c .call) ++ freedSends x c) (either SendsOk (c .pressed) _ _ press-off-ok tt)
+        (each-append SendOk (endOf 1 (c .call)) (freedSends x c) (end-ok 1 (omega arith) (c .call) (ok .call-ok)) freed-ok);
   }
 
   release-ok : (d : ℕ) → StepOk (release x d c)
   unfolding release
   release-ok d =
-      either (heldBy d (c .holder)) _ _
+      either StepOk (heldBy d (c .holder)) _ _
       (record { next-ok = cut-ok .next-ok; sends-ok = (omega arith, cut-ok .sends-ok) })
       (record { next-ok = ok; sends-ok = (omega arith, tt) })
 
@@ -210,7 +202,7 @@ module _ (x : Context) (own : NumberOk (x .own)) (c : Channel) (ok : ChannelOk c
   unfolding pressOn
   pressOn-ok = record {
     next-ok = record { code-ok = ok .code-ok; call-ok = opened-ok (c .call) (pressCall x c) (ok .call-ok) own-talk; arrival-ok = ok .arrival-ok };
-    sends-ok = (tt, append-ok (openingSends (c .call) (pressCall x c)) _ (opening-ok (c .call) (pressCall x c) own-talk) ((kind-ok (c .call) (ok .call-ok), omega arith), tt));
+    sends-ok = (tt, each-append SendOk (openingSends (c .call) (pressCall x c)) _ (opening-ok (c .call) (pressCall x c) own-talk) ((kind-ok (c .call) (ok .call-ok), omega arith), tt));
   }
 
   pressOff-ok : StepOk (pressOff x c)
@@ -230,7 +222,7 @@ module _ (x : Context) (own : NumberOk (x .own)) (c : Channel) (ok : ChannelOk c
       let o : CallOk new = mobile-talk Closed tt b n h g in
       record {
         next-ok = record { code-ok = ok .code-ok; call-ok = opened-ok (c .call) new (ok .call-ok) o; arrival-ok = t };
-        sends-ok = (tt, ((t, omega arith), append-ok (openingSends (c .call) new) _ (opening-ok (c .call) new o) ((t, omega arith), tt)));
+        sends-ok = (tt, ((t, omega arith), each-append SendOk (openingSends (c .call) new) _ (opening-ok (c .call) new o) ((t, omega arith), tt)));
       }
 
   mobileOff-ok : StepOk (mobileOff c)
@@ -240,31 +232,31 @@ module _ (x : Context) (own : NumberOk (x .own)) (c : Channel) (ok : ChannelOk c
   tickQuiet-ok : StepOk (tickQuiet c)
   unfolding tickQuiet
   tickQuiet-ok =
-      either (leb (c .quiet) 1) _ _
+      either StepOk (leb (c .quiet) 1) _ _
       (record { next-ok = record { code-ok = ok .code-ok; call-ok = tt; arrival-ok = ok .arrival-ok }; sends-ok = end-ok 3 (omega arith) (c .call) (ok .call-ok) })
       (record { next-ok = kept _ refl refl refl; sends-ok = tt })
 
   tickRelease-ok : StepOk (tickRelease x c)
   unfolding tickRelease
   tickRelease-ok =
-      either (leb (c .release) 1) _ _ (record { next-ok = kept _ refl refl refl; sends-ok = freed-ok }) (record { next-ok = kept _ refl refl refl; sends-ok = tt })
+      either StepOk (leb (c .release) 1) _ _ (record { next-ok = kept _ refl refl refl; sends-ok = freed-ok }) (record { next-ok = kept _ refl refl refl; sends-ok = tt })
 
   tickIdle-ok : StepOk (tickIdle x c)
   unfolding tickIdle
-  tickIdle-ok = either (ltb 0 (c .quiet)) _ _ tickQuiet-ok (either (isHeld (c .holder)) _ _ tickRelease-ok plain-ok)
+  tickIdle-ok = either StepOk (ltb 0 (c .quiet)) _ _ tickQuiet-ok (either StepOk (isHeld (c .holder)) _ _ tickRelease-ok plain-ok)
 
   tick-ok : StepOk (tick x c)
   unfolding tick
-  tick-ok = either (c .pressed) _ _ plain-ok (either (isPresent (c .arrival)) _ _ plain-ok tickIdle-ok)
+  tick-ok = either StepOk (c .pressed) _ _ plain-ok (either StepOk (isPresent (c .arrival)) _ _ plain-ok tickIdle-ok)
 
   handover-ok : StepOk (handover x c)
   unfolding handover
   handover-ok = record {
     next-ok = record { code-ok = ok .code-ok; call-ok = tt; arrival-ok = tt };
     sends-ok =
-        append-ok (when (c .pressed) (pressOffSends x c)) _ (when-ok (c .pressed) (pressOffSends x c) press-off-ok)
-        (append-ok (mobileOffSends (c .arrival)) _ (off-ok (c .arrival) (ok .arrival-ok))
-        (append-ok (endOf 2 (c .call)) _ (end-ok 2 (omega arith) (c .call) (ok .call-ok)) (when-ok (isHeld (c .holder)) (freedSends x c) freed-ok)));
+        each-append SendOk (when (c .pressed) (pressOffSends x c)) _ (either SendsOk (c .pressed) _ _ press-off-ok tt)
+        (each-append SendOk (mobileOffSends (c .arrival)) _ (off-ok (c .arrival) (ok .arrival-ok))
+        (each-append SendOk (endOf 2 (c .call)) _ (end-ok 2 (omega arith) (c .call) (ok .call-ok)) (either SendsOk (isHeld (c .holder)) _ _ freed-ok tt)));
   }
 
   pub happens-ok : (v : Event) → EventOk v → StepOk (happens v x c)

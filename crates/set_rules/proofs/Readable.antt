@@ -1,7 +1,7 @@
 -- Every telegram that a feed brings about reads as meant: numbers and codes stay in range.
 -- Assumes nothing.
 use Prim.Native.Nat.{ℕ, zero, suc, _+_, _-_, _*_, _^_, _≤_, _<_}
-use mathlib.Core.List.{List, [], _∷_, _++_}
+use mathlib.Core.List.{List, [], _∷_}
 use mathlib.Core.Bool.{Bool, true, false, _&&_, _||_, not, cond, false≢true}
 use mathlib.Core.Path.{_≡_, refl, sym, ap, _∙_}
 use native.Mathlib.Omega.{arith}
@@ -34,11 +34,11 @@ use Rattle.set_rules.specs.State.{newSet, noDesk, noChannel, deskAt, cha
 use Rattle.set_rules.specs.Entries.{byte, word, readEntry, measured, bad, payload, payloadOk, sizeOk, telegramIn, planIn}
 use Rattle.set_rules.specs.Plan.{deskOk, desksOk, desksIn, channelsOk, channelsIn, deskCount, desksPart, channelCount, channelsPart, distinct, planOk, filled, setOf}
 use Rattle.set_rules.specs.Refusals.{refusalOf}
-use Rattle.set_rules.specs.Records.{Delivery, delivered}
+use Rattle.set_rules.specs.Records.{delivered}
 use Rattle.set_rules.specs.SetRules.{Effect, effect, telegramTo, contextOf, happensIn, nextsOf, sendsOf, onChannel, byHolder, onTick, onHandover, onPlan, onReading, timeTaken, answerTaken, numberIn, accepted}
 use Rattle.set_rules.specs.Feeds.{Item, stepOf, stepBy, after}
 use Rattle.set_rules.specs.Invariant.{NumberOk, ChannelOk, DeskOk, SetOk}
-use Rattle.set_rules.specs.Promises.{AllRead, Readable, InRange}
+use Rattle.set_rules.specs.Promises.{Reads, AllRead, Readable, InRange}
 use Rattle.set_rules.specs.declared.state.Link.{Link}
 use Rattle.set_rules.specs.declared.state.Desk.{Desk}
 use Rattle.set_rules.specs.declared.state.LineSet.{LineSet}
@@ -78,10 +78,6 @@ sent-reads ds o ch h [] k = tt
 sent-reads ds o ch h (s ∷ ss) k =
     (λ d m e. content-reads (getD ds d noDesk .code) (contentFor d ch (s .notice)) (desk-ok ds o d .code-ok) (in-range d ch (s .notice) h (k .0)) m e, sent-reads ds o ch h ss (k .1))
 
-read-append : (ds : List Desk) (vs ws : List Delivery) → AllRead ds vs → AllRead ds ws → AllRead ds (vs ++ ws)
-read-append ds [] ws a b = b
-read-append ds (v ∷ vs) ws a b = (a .0, read-append ds vs ws (a .1) b)
-
 -- a telegram that is in range whatever it says
 plain-reads : (ds : List Desk) → Each DeskOk ds → (to : ℕ) (m : Message) → inRange m ≡ true → AllRead ds (telegramTo to m)
 plain-reads ds o to m h = (λ d m′ e. content-reads (getD ds d noDesk .code) (telegram m) (desk-ok ds o d .code-ok) h m′ e, tt)
@@ -119,7 +115,7 @@ module _ (s : LineSet) (ok : SetOk s) where
   all-ok v h (c ∷ cs) o =
       let k = happens-ok (contextOf s c (holderPlace (c .holder))) (own-ok (holderPlace (c .holder))) c (o .0) v h in
       let r = all-ok v h cs (o .1) in
-      ((k .next-ok, r .0), read-append (s .desks) (delivered (c .code) (happensIn s v c .sends)) (sendsOf s v cs) (sent-reads (s .desks) (ok .desks-ok) (c .code) (o .0 .code-ok) (happensIn s v c .sends) (k .sends-ok)) (r .1))
+      ((k .next-ok, r .0), each-append (Reads (s .desks)) (delivered (c .code) (happensIn s v c .sends)) (sendsOf s v cs) (sent-reads (s .desks) (ok .desks-ok) (c .code) (o .0 .code-ok) (happensIn s v c .sends) (k .sends-ok)) (r .1))
 
   planned-ok : Each ChannelOk (channelsOf s)
   planned-ok = each-take ChannelOk (s .size .channels) (s .channels) (ok .channels-ok)

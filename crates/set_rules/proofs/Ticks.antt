@@ -10,7 +10,7 @@ use lib.ListN.{length, replicate, take, drop, set}
 use borrow.Author.Tests.{eqb-true, eq-eqb, ltb-true}
 use Rattle.channel.specs.State.{isIn, holderPlace}
 use Rattle.line_rules.specs.Rules.{Context, Step, to, happens, pressOff, tick, tickIdle, tickQuiet, tickRelease, endOf, freedSends}
-use Rattle.line_rules.proofs.Traps.{quietly}
+use Rattle.line_rules.specs.Promises.{quietly}
 use Rattle.channel.specs.declared.state.Holder.the-variants.{Held}
 use Rattle.channel.specs.declared.state.Call.{Call}
 use Rattle.channel.specs.declared.state.Arrival.the-variants.{Absent}

@@ -211,12 +211,13 @@ Marked = ReaderMarked × (Hold cases × Ticked)
 
 -- ---- 5. What is sent reads as meant (`Readable.readable`)
 
--- every telegram of some deliveries reads, under its desk's code, as the message that the rule names
+-- every telegram of a delivery reads, under its desk's code, as the message that the rule names
+abbrev pub Reads : List Desk → Delivery → Type 0
+Reads ds v =
+    (d : ℕ) (m : Message) → v .content d ≡ telegram m → readTelegram (telegramOf (getD ds d noDesk .code) m) ≡ Telegram (getD ds d noDesk .code) m
+
 abbrev pub AllRead : List Desk → List Delivery → Type 0
-AllRead ds [] = Unit {0}
-AllRead ds (v ∷ vs) =
-    ((d : ℕ) (m : Message) → v .content d ≡ telegram m → readTelegram (telegramOf (getD ds d noDesk .code) m) ≡ Telegram (getD ds d noDesk .code) m)
-    × AllRead ds vs
+AllRead ds = Each (Reads ds)
 
 -- In every state that a feed from a new set brings about, every telegram that an accepted entry sends reads, under its desk's
 -- code, as the message that the rule names.

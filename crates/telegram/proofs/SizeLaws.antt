@@ -1,12 +1,11 @@
 -- How long telegrams are.
 -- Assumes nothing.
-use Prim.Native.Nat.{ℕ, _≤_}
 use mathlib.Core.Path.{_≡_, refl}
 use native.Mathlib.Omega.{arith}
 use lib.Dec.{lit≤}
 use lib.ListN.{length, length-append}
 use Rattle.fields.proofs.Kept.{length-digits, length-bytes}
-use Rattle.telegram.specs.Telegram.{rowOf, valuesOf, sizeOf, telegramOf}
+use Rattle.telegram.specs.Telegram.{rowOf, valuesOf, telegramOf}
 use Rattle.telegram.specs.Promises.{Sized, AtMost46}
 use Rattle.telegram.specs.declared.message.Message.{Message}
 use Rattle.telegram.specs.declared.message.Message.the-variants.{TimeNotice, OperationAnswer, TimeRequest, BaseArrival, OperationRequest, Call, CallerNotice, CaptureRequest, CaptureReply, CaptureState}
