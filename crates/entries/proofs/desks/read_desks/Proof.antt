@@ -36,7 +36,7 @@ loop-holds : tie.Need-loop-holds Inv-loop μ-loop
 loop-holds c =
     let st = c .before .before in
     let h : length (desksIn (st .args .n) (st .args .s .now)) ≤ 4 = rw length-desks (search needs) in
-    (search needs, search needs, search needs, rw sub-zero, rw (sub-zero, c .no-desk .ensures) (filled-sets 4 noDesk (desksIn (st .args .n) (st .args .s .now)) h))
+    (search needs, search needs, search needs, rw sub-zero, rw (sub-zero, c .none .ensures) (filled-sets 4 noDesk (desksIn (st .args .n) (st .args .s .now)) h))
 
 enum-told : tie.Need-enum-told Inv-loop μ-loop
 enum-told c = search needs
