@@ -7,7 +7,7 @@ use mathlib.Core.Path.{_≡_, refl}
 use native.Mathlib.Omega.{arith}
 use lib.Dec.{eqb}
 use borrow.Author.Tests.{lt-ltb, le-ltb, eqb-true, eqb-false}
-use Rattle.laws.proofs.Tests.{either}
+use Rattle.laws.proofs.Tests.{by-test, either}
 use Rattle.channel.specs.State.{isHeld, heldBy, isPresent}
 use Rattle.line_rules.specs.Rules.{Context, Step, to, when, endOf, mobileOffSends, isOpen, captureAt, capture, release, cut, handover}
 use Rattle.timers.specs.Falls.{runOut}
@@ -106,12 +106,7 @@ any-handover x c = simp (any-append, any-when, any-end, any-mobile-off, or-assoc
 -- where a timer runs out: the end of a call, or that the channel is free
 pub any-run-out : (x : Context) (c : Channel) → any (runOut x c .sends) ≡ (eqb (c .quiet) 0 || isOpen (c .call))
 unfolding runOut
-any-run-out x c = go (eqb (c .quiet) 0) refl
-  where
-    go : (t : Bool) → eqb (c .quiet) 0 ≡ t → any (runOut x c .sends) ≡ (eqb (c .quiet) 0 || isOpen (c .call))
-    go true e =
-        let stopped : c .quiet ≤ 0 = omega (arith, eqb-true (c .quiet) 0 e) in
-        simp (e, le-ltb 0 (c .quiet) stopped) refl
-    go false e =
-        let runs : 0 < c .quiet = omega (arith, eqb-false (c .quiet) 0 e) in
-        simp (e, lt-ltb 0 (c .quiet) runs, any-end) refl
+any-run-out x c =
+    by-test (eqb (c .quiet) 0)
+    (λ e. let stopped : c .quiet ≤ 0 = omega (arith, eqb-true (c .quiet) 0 e) in simp (e, le-ltb 0 (c .quiet) stopped) refl)
+    (λ e. let runs : 0 < c .quiet = omega (arith, eqb-false (c .quiet) 0 e) in simp (e, lt-ltb 0 (c .quiet) runs, any-end) refl)

@@ -9,7 +9,7 @@ use lib.Dec.{eqb, leb, ltb, lit≤, lit<}
 use borrow.Author.Tests.{le-leb, lt-ltb, eq-eqb, leb-true}
 use Rattle.laws.specs.Each.{Each}
 use Rattle.laws.proofs.Each.{each-append}
-use Rattle.laws.proofs.Tests.{both, either}
+use Rattle.laws.proofs.Tests.{both, by-test, either}
 use Rattle.fields.specs.Fields.{allIn, between}
 use Rattle.telegram.specs.Telegram.{num, inRange, sendable}
 use Rattle.telegram.specs.declared.message.Number.{Number}
@@ -44,11 +44,10 @@ NoticeOk (CaptureReply r) = r ≤ 1
 NoticeOk (CaptureState h n s) = NumberOk n × (s ≤ 1)
 
 below : (b : ℕ) → BaseOk b → ltb b (10 ^ 3) ≡ true
-below b h = go (leb b 29) refl h
-  where
-    go : (t : Bool) → leb b 29 ≡ t → (t || between 997 999 b) ≡ true → ltb b (10 ^ 3) ≡ true
-    go true k h = lt-ltb b (10 ^ 3) (omega (arith, leb-true b 29 k))
-    go false k h = lt-ltb b (10 ^ 3) (omega (arith, leb-true b 999 (both (leb 997 b) (leb b 999) h .1)))
+below b h =
+    by-test (leb b 29)
+    (λ k. lt-ltb b (10 ^ 3) (omega (arith, leb-true b 29 k)))
+    (λ k. lt-ltb b (10 ^ 3) (omega (arith, leb-true b 999 (both (leb 997 b) (leb b 999) (rw k at h) .1))))
 
 -- a planned channel's code stands in its field
 channel-in : (ch : ℕ) → ch ≤ 99 → (ltb ch (10 ^ 3) ≡ true) × (leb ch 99 ≡ true)
@@ -61,6 +60,9 @@ digit-in v top h k = (lt-ltb v (10 ^ 1) (omega arith), le-leb v top h)
 abbrev pub ContentOk : Content → Type 0
 ContentOk (telegram m) = inRange m ≡ true
 ContentOk (contact k ch on) = Unit {0}
+
+abbrev StateOk : ℕ → ℕ → Number → Type 0
+StateOk ch s n = ContentOk (telegram (State (record { channel = ch; number = n; state = s })))
 
 pub in-range : (d ch : ℕ) (n : Notice) → ch ≤ 99 → NoticeOk n → ContentOk (contentFor d ch n)
 unfolding allIn
@@ -90,17 +92,11 @@ in-range d ch (CaptureReply r) h k =
     let c = channel-in ch h in
     let j = digit-in r 1 k (omega arith) in
     simp (c .0, c .1, j .0, j .1)
-in-range d ch (CaptureState h′ n s) h k = go (eqb h′ d)
-  where
-    go : (t : Bool) → ContentOk (telegram (State (record { channel = ch; number = cond t n (num 0); state = s })))
-    go true =
-        let c = channel-in ch h in
-        let j = digit-in s 1 (k .1) (omega arith) in
-        simp (c .0, c .1, lt-ltb (n .digits) (10 ^ 8) (k .0), j .0, j .1)
-    go false =
-        let c = channel-in ch h in
-        let j = digit-in s 1 (k .1) (omega arith) in
-        simp (c .0, c .1, j .0, j .1)
+in-range d ch (CaptureState h′ n s) h k =
+    let c = channel-in ch h in
+    let j = digit-in s 1 (k .1) (omega arith) in
+    let ok : (x : Number) → NumberOk x → StateOk ch s x = λ x b. simp (c .0, c .1, lt-ltb (x .digits) (10 ^ 8) b, j .0, j .1) in
+    either (StateOk ch s) (eqb h′ d) n (num 0) (ok n (k .0)) (ok (num 0) (omega arith))
 
 -- ---- what a rule sends, and the channel after it
 

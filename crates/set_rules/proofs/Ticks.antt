@@ -8,6 +8,7 @@ use native.Mathlib.Omega.{arith}
 use lib.Dec.{eqb, leb, ltb}
 use lib.ListN.{length, replicate, take, drop, set}
 use borrow.Author.Tests.{eqb-true, eq-eqb, ltb-true}
+use Rattle.laws.proofs.Tests.{by-test}
 use Rattle.channel.specs.State.{isIn, holderPlace}
 use Rattle.line_rules.specs.Rules.{Context, Step, to, happens, pressOff, tick, tickIdle, tickQuiet, tickRelease, endOf, freedSends}
 use Rattle.line_rules.specs.Promises.{quietly}
@@ -43,11 +44,10 @@ record Done (s : LineSet) (o : Outcome) : Type 0 where
 
 tick-done : (s : LineSet) (room : ℕ) → s .planned ≡ true → stepOf s (entryOf 6 []) room .refusal ≡ 0 → Done s (stepOf s (entryOf 6 []) room)
 unfolding stepOf accepted readEntry onTick
-tick-done s room p z = go (leb (spaceOf (onTick s .sent)) room) refl
-  where
-    go : (u : Bool) → leb (spaceOf (onTick s .sent)) room ≡ u → Done s (stepOf s (entryOf 6 []) room)
-    go true l = record { bytes-are = rw (tick-accepted s p, l); after-is = rw (tick-accepted s p, l) }
-    go false l = absurd (let f : _≡_ {A = ℕ} 16 0 = rw (tick-accepted s p, l) at z in omega arith)
+tick-done s room p z =
+    by-test (leb (spaceOf (onTick s .sent)) room)
+    (λ l. record { bytes-are = rw (tick-accepted s p, l); after-is = rw (tick-accepted s p, l) })
+    (λ l. absurd (let f : _≡_ {A = ℕ} 16 0 = rw (tick-accepted s p, l) at z in omega arith))
 
 -- what each of so many ticks sends
 sentBy : ℕ → LineSet → List (List Delivery)

@@ -8,6 +8,7 @@ use lib.Dec.{eqb, leb, lit≤}
 use lib.ListN.{length}
 use borrow.Author.Tests.{eqb-true, le-leb}
 use Rattle.laws.specs.Each.{Each}
+use Rattle.laws.proofs.Tests.{by-test}
 use Rattle.fields.specs.Fields.{bodyOk, valuesIn, padded}
 use Rattle.telegram.specs.Telegram.{Row, table, timeNotice, operationAnswer, timeRequest, baseArrival, operationRequest, call, callerNotice, captureRequest, captureReply, captureState, readRow, readIn}
 use Rattle.telegram_reader.specs.Steps.{knownIn, bodyIn, messageIn}
@@ -26,13 +27,14 @@ stepped rs c i b =
 
 steps-are : (rs : List Row) → Each Fits rs → (c i : ℕ) (b : List ℕ) → readIn rs c i b ≡ stepped rs c i b
 steps-are [] fit c i b = refl
-steps-are (r ∷ rs) fit c i b = go (eqb i (r .id)) refl (bodyOk (r .body) 0 0 b) refl (steps-are rs (fit .1) c i b)
-  where
-    go : (t : Bool) → eqb i (r .id) ≡ t → (u : Bool) → bodyOk (r .body) 0 0 b ≡ u → readIn rs c i b ≡ stepped rs c i b
-        → readIn (r ∷ rs) c i b ≡ stepped (r ∷ rs) c i b
-    go true h true k rest = simp (h, k, le-leb (length (r .body)) 11 (fit .0 .few), fit .0 .same b)
-    go true h false k rest = simp (h, k, le-leb (length (r .body)) 11 (fit .0 .few)) (ap (Refused 10 c) (sym (eqb-true i (r .id) h)))
-    go false h u k rest = simp h rest
+steps-are (r ∷ rs) fit c i b =
+    by-test (eqb i (r .id))
+    (λ h.
+    let few = le-leb (length (r .body)) 11 (fit .0 .few) in
+    by-test (bodyOk (r .body) 0 0 b)
+    (λ k. simp (h, k, few, fit .0 .same b))
+    (λ k. simp (h, k, few) (ap (Refused 10 c) (sym (eqb-true i (r .id) h)))))
+    (λ h. simp h (steps-are rs (fit .1) c i b))
 
 fits : Each Fits table
 unfolding valuesIn

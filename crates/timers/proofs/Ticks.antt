@@ -7,7 +7,7 @@ use mathlib.Core.Path.{_≡_, refl, sym, _∙_}
 use borrow.Author.Tests.{lt-ltb, le-ltb, lt-leb, le-leb, eqb-true, eqb-false, ltb-true, ltb-false, not-true, not-false}
 use native.Mathlib.Omega.{arith}
 use lib.Dec.{eqb, leb, ltb}
-use Rattle.laws.proofs.Tests.{both, neither, cond-of}
+use Rattle.laws.proofs.Tests.{both, neither, by-test, cond-of}
 use Rattle.channel.specs.State.{isHeld, isPresent}
 use Rattle.line_rules.specs.Rules.{Context, Step, tick, tickIdle, tickQuiet, tickRelease}
 use Rattle.timers.specs.Falls.{falling, runOut, tickBy}
@@ -98,12 +98,12 @@ module _ (c : Channel) where
     unfolding falling
     runs-out q t =
         let n = neither (c .pressed) (isPresent (c .arrival)) h in
-        simp (n .0, n .1, go (eqb (c .quiet) 0) refl) refl
-      where
-        go : (u : Bool) → eqb (c .quiet) 0 ≡ u → idle c ≡ Due
-        go true e =
-            let stopped : c .quiet ≤ 0 = omega (arith, eqb-true (c .quiet) 0 e) in
-            simp (le-ltb 0 (c .quiet) stopped, held e, le-leb (c .release) 1 (ltb-false 1 (c .release) (rw e at t))) refl
-        go false e =
-            let runs : 0 < c .quiet = omega (arith, eqb-false (c .quiet) 0 e) in
-            simp (lt-ltb 0 (c .quiet) runs, le-leb (c .quiet) 1 q) refl
+        let due : idle c ≡ Due =
+        by-test (eqb (c .quiet) 0)
+        (λ e.
+        let stopped : c .quiet ≤ 0 = omega (arith, eqb-true (c .quiet) 0 e) in
+        simp (le-ltb 0 (c .quiet) stopped, held e, le-leb (c .release) 1 (ltb-false 1 (c .release) (rw e at t))) refl)
+        (λ e.
+        let runs : 0 < c .quiet = omega (arith, eqb-false (c .quiet) 0 e) in
+        simp (lt-ltb 0 (c .quiet) runs, le-leb (c .quiet) 1 q) refl) in
+        simp (n .0, n .1, due) refl
