@@ -15,7 +15,7 @@ use Rattle.channel.specs.declared.state.Arrival.{Arrival}
 use Rattle.channel.specs.declared.state.Arrival.the-variants.{Absent, Present}
 use Rattle.channel.specs.declared.state.Channel.{Channel}
 use Rattle.set_rules.specs.declared.state.Desk.{Desk}
-use Rattle.controller.specs.Plain.{holderIn, callIn, arrivalIn, channelIn, deskIn, setIn, flagOf, holderOf, callOf, arrivalOf, channelOf, deskOf, plainOf, plainAfter}
+use Rattle.controller.specs.Plain.{holderIn, callIn, arrivalIn, channelIn, deskIn, setIn, flagOf, holderOf, callOf, arrivalOf, channelOf, deskOf, plainOf}
 use Rattle.set_rules.proofs.Answers.{refused}
 use Rattle.set_rules.specs.Feeds.{stepOf}
 use Rattle.controller.specs.Promises.{Returns, Untouched, Stepped}

@@ -2,14 +2,14 @@
 -- Assumes nothing.
 use Prim.Native.Nat.{ℕ, _+_, _-_, _*_, _≤_}
 use mathlib.Core.List.{List}
-use mathlib.Core.Bool.{true, false, _&&_, false≢true}
-use mathlib.Core.Path.{_≡_, sym, ap, _∙_}
+use mathlib.Core.Bool.{true, false, _&&_}
+use mathlib.Core.Path.{_≡_, refl, sym, ap}
 use native.Mathlib.Omega.{arith}
 use lib.Dec.{leb, eqb}
 use lib.ListN.{length, take, drop}
 use borrow.Author.Tests.{leb-true, eqb-true}
 use Rattle.laws.proofs.Lists.{part-to-end}
-use Rattle.laws.proofs.Tests.{both, cond-taken, cond-left}
+use Rattle.laws.proofs.Tests.{both, cond-taken, cond-left, flag-taken, flag-left}
 use Rattle.fields.specs.Fields.{between}
 use Rattle.set_rules.specs.State.{noDesk, noChannel}
 use Rattle.set_rules.specs.Plan.{deskOk, desksOk, desksIn, channelsOk, channelsIn, deskCount, desksPart, channelCount, channelsPart, filled}
@@ -71,12 +71,12 @@ module _ (n : ℕ) (b : List ℕ) (r : Desks) (e : r ≡ desksRead n b) where
   pub desks-found : r .ok ≡ true → (desksOk n b ≡ true) × (r .desks ≡ filled 4 noDesk (desksIn n b))
   unfolding desksRead
   desks-found o =
-      let t = cond-taken (desksOk n b) read-desks noDesks (sym e) (λ q. false≢true (ap (λ (x : Desks). x .ok) q ∙ o)) in
-      (t .0, ap (λ (x : Desks). x .desks) (sym (t .1)))
+      let t = flag-taken (λ (x : Desks). x .ok) (desksOk n b) read-desks noDesks e refl o in
+      (t .0, ap (λ (x : Desks). x .desks) (t .1))
 
   pub desks-bad : r .ok ≡ false → desksOk n b ≡ false
   unfolding desksRead
-  desks-bad o = cond-left (desksOk n b) read-desks noDesks (sym e) (λ q. false≢true (sym o ∙ ap (λ (x : Desks). x .ok) (sym q))) .0
+  desks-bad o = flag-left (λ (x : Desks). x .ok) (desksOk n b) read-desks noDesks e refl o
 
 module _ (n desks : ℕ) (b : List ℕ) (r : Channels) (e : r ≡ channelsRead n desks b) where
   abbrev read-channels : Channels
@@ -85,12 +85,12 @@ module _ (n desks : ℕ) (b : List ℕ) (r : Channels) (e : r ≡ channelsRead n
   pub channels-found : r .ok ≡ true → (channelsOk n 0 desks b ≡ true) × (r .channels ≡ filled 32 noChannel (channelsIn n b))
   unfolding channelsRead
   channels-found o =
-      let t = cond-taken (channelsOk n 0 desks b) read-channels noChannels (sym e) (λ q. false≢true (ap (λ (x : Channels). x .ok) q ∙ o)) in
-      (t .0, ap (λ (x : Channels). x .channels) (sym (t .1)))
+      let t = flag-taken (λ (x : Channels). x .ok) (channelsOk n 0 desks b) read-channels noChannels e refl o in
+      (t .0, ap (λ (x : Channels). x .channels) (t .1))
 
   pub channels-bad : r .ok ≡ false → channelsOk n 0 desks b ≡ false
   unfolding channelsRead
-  channels-bad o = cond-left (channelsOk n 0 desks b) read-channels noChannels (sym e) (λ q. false≢true (sym o ∙ ap (λ (x : Channels). x .ok) (sym q))) .0
+  channels-bad o = flag-left (λ (x : Channels). x .ok) (channelsOk n 0 desks b) read-channels noChannels e refl o
 
 -- ---- the parts of a plan that its readers are given
 

@@ -1,7 +1,7 @@
 -- Tests put together, and choices by a test.
 -- Assumes nothing.
 use mathlib.Core.Bool.{Bool, true, false, _&&_, _||_, cond, false≢true, true≢false}
-use mathlib.Core.Path.{_≡_, refl}
+use mathlib.Core.Path.{_≡_, refl, sym, ap, _∙_}
 
 -- both halves of a conjunction
 pub both : (a b : Bool) → (a && b) ≡ true → (a ≡ true) × (b ≡ true)
@@ -36,3 +36,12 @@ cond-taken false a b e n = absurd (n e)
 pub cond-left : {A : Type 0} (t : Bool) (a b : A) {c : A} → cond t a b ≡ c → (a ≡ c → ⊥) → (t ≡ false) × (b ≡ c)
 cond-left true a b e n = absurd (n e)
 cond-left false a b e n = (refl, e)
+
+-- the same where a flag tells the two branches apart
+pub flag-taken : {A : Type 0} (flag : A → Bool) (t : Bool) (a b : A) {c : A} → c ≡ cond t a b → flag b ≡ false → flag c ≡ true → (t ≡ true) × (c ≡ a)
+flag-taken flag true a b e h k = (refl, e)
+flag-taken flag false a b e h k = absurd (false≢true (sym h ∙ (ap flag (sym e) ∙ k)))
+
+pub flag-left : {A : Type 0} (flag : A → Bool) (t : Bool) (a b : A) {c : A} → c ≡ cond t a b → flag a ≡ true → flag c ≡ false → t ≡ false
+flag-left flag true a b e h k = absurd (false≢true (sym k ∙ (ap flag e ∙ h)))
+flag-left flag false a b e h k = refl

@@ -2,7 +2,7 @@
 -- Assumes nothing.
 use Prim.Native.Nat.{ℕ, zero, suc, _-_, _^_, _≤_, _<_}
 use mathlib.Core.List.{List, [], _++_}
-use mathlib.Core.Bool.{Bool, true, false, _&&_, _||_, cond}
+use mathlib.Core.Bool.{Bool, true, false, cond}
 use mathlib.Core.Path.{_≡_, refl, sym, ap, _∙_}
 use native.Mathlib.Omega.{arith}
 use lib.Dec.{eqb, leb, ltb, lit≤, lit<}
@@ -10,7 +10,7 @@ use borrow.Author.Tests.{le-leb, lt-ltb, eq-eqb, leb-true}
 use Rattle.laws.specs.Each.{Each}
 use Rattle.laws.proofs.Each.{each-append}
 use Rattle.laws.proofs.Tests.{both, by-test, either}
-use Rattle.fields.specs.Fields.{allIn, between}
+use Rattle.fields.specs.Fields.{allIn}
 use Rattle.telegram.specs.Telegram.{num, inRange, sendable}
 use Rattle.telegram.specs.declared.message.Number.{Number}
 use Rattle.telegram.specs.declared.message.Message.{Message}

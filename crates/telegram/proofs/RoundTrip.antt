@@ -2,7 +2,7 @@
 -- Assumes nothing.
 use Prim.Native.Nat.{ℕ, zero, suc, _+_, _^_, _≤_, _<_}
 use mathlib.Core.List.{List, [], _∷_, _++_, append-assoc, append-nil}
-use mathlib.Core.Bool.{Bool, true, false, _&&_, cond, false≢true}
+use mathlib.Core.Bool.{true, false≢true}
 use mathlib.Core.Path.{_≡_, refl, sym, ap, _∙_}
 use native.Mathlib.Omega.{arith}
 use lib.ListN.{length, length-append, length-drop, getD, take, drop, take-append-drop}
@@ -15,7 +15,7 @@ use Rattle.laws.proofs.Tests.{both, by-test, cond-taken}
 use Rattle.fields.specs.Digits.{digitsOf, allDigits, valueOf}
 use Rattle.fields.specs.Fields.{Field, plain, length4, code, len, inRange as fits, bodyOk, valuesIn, allIn, bytesOf}
 use Rattle.fields.proofs.Kept.{length-digits, digits-digits, value-digits, digits-value, read-written, written-read, length-bytes, same-count}
-use Rattle.telegram.specs.Telegram.{Row, nth, timeNotice, operationAnswer, timeRequest, baseArrival, operationRequest, call, callerNotice, captureRequest, captureReply, captureState, table, readRow, readIn, heading, headerOk, readIdentified, readTelegram, rowOf, valuesOf, sizeOf, headed, telegramOf, inRange, sendable}
+use Rattle.telegram.specs.Telegram.{Row, nth, timeNotice, operationAnswer, timeRequest, baseArrival, operationRequest, call, callerNotice, captureRequest, captureReply, captureState, table, readRow, readIn, heading, headerOk, readIdentified, readTelegram, rowOf, valuesOf, sizeOf, headed, telegramOf, inRange}
 use Rattle.telegram.specs.Promises.{ReadsBack, WrittenForm, OneForm}
 use Rattle.telegram.specs.declared.message.Message.{Message}
 use Rattle.telegram.specs.declared.message.Message.the-variants.{TimeNotice, OperationAnswer, TimeRequest, BaseArrival, OperationRequest, Call, CallerNotice, CaptureRequest, CaptureReply, CaptureState}
