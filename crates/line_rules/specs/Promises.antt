@@ -1,7 +1,7 @@
 -- What is promised of the line rules of one channel, for every channel and every context. `proofs/` proves each under the
 -- name given with it. Most of them shut out one of 01's traps on the bench.
 use Prim.Native.Nat.{ℕ, zero, suc}
-use mathlib.Core.List.{List, [], _∷_, _++_}
+use mathlib.Core.List.{List, [], _∷_, _++_, map}
 use mathlib.Core.Bool.{true, false}
 use mathlib.Core.Path.{_≡_}
 use lib.Dec.{eqb, ltb}
@@ -24,8 +24,7 @@ use Rattle.channel.specs.declared.state.Notice.the-variants.{PressAnswer, Incom
 use Rattle.channel.specs.declared.state.Send.{Send}
 
 abbrev pub recipientsOf : List Send → List ℕ
-recipientsOf [] = []
-recipientsOf (s ∷ ss) = s .recipients ∷ recipientsOf ss
+recipientsOf = map (λ (s : Send). s .recipients)
 
 -- A mobile off goes to those who were told of its mobile on, whoever holds or listens by then (`Traps.off-to-the-told`).
 abbrev pub OffToTheTold : Type 0
