@@ -7,22 +7,16 @@ use mathlib.Core.Path.{_≡_, refl, sym, _∙_}
 use native.Mathlib.Omega.{arith}
 use lib.Dec.{eqb, ltb}
 use lib.ListN.{length, take, drop, getD, drop-of-length-le}
+use lib.Seq.{take-nil}
 use borrow.Author.Tests.{lt-ltb, ltb-true}
+use Rattle.laws.proofs.Lists.{tab, tab-all}
 use Rattle.channel.specs.State.{isIn}
 use Rattle.set_rules.specs.State.{isRunning, runningFrom}
 use Rattle.set_rules.specs.declared.state.Desk.{Desk}
 
 pub four : {A : Type 0} (xs : List A) (z : A) → length xs ≡ 4 → xs ≡ getD xs 0 z ∷ getD xs 1 z ∷ getD xs 2 z ∷ getD xs 3 z ∷ []
-four [] z h = absurd (omega arith)
-four (a ∷ []) z h = absurd (omega arith)
-four (a ∷ b ∷ []) z h = absurd (omega arith)
-four (a ∷ b ∷ c ∷ []) z h = absurd (omega arith)
-four (a ∷ b ∷ c ∷ d ∷ []) z h = refl
-four (a ∷ b ∷ c ∷ d ∷ e ∷ xs) z h = absurd (omega arith)
-
-take-none : (n : ℕ) → take {A = Desk} n [] ≡ []
-take-none zero = refl
-take-none (suc n) = refl
+unfolding tab
+four xs z h = sym (rw h at (tab-all xs z))
 
 -- a desk's place in a set, if it listens and is running
 abbrev share : Bool → Desk → ℕ → ℕ
@@ -42,7 +36,7 @@ shares a b c d (suc (suc zero)) m = rw (and-comm (isRunning a), and-comm (isRunn
 shares a b c d (suc (suc (suc zero))) m = rw (and-comm (isRunning a), and-comm (isRunning b), and-comm (isRunning c)) (omega arith)
 shares a b c d (suc (suc (suc (suc n)))) m =
     let k : (i : ℕ) → i < 4 → ltb i (suc (suc (suc (suc n)))) ≡ true = λ i h. lt-ltb i _ (omega arith) in
-    rw (k 0 (omega arith), k 1 (omega arith), k 2 (omega arith), k 3 (omega arith), and-comm (isRunning a), and-comm (isRunning b), and-comm (isRunning c), and-comm (isRunning d), take-none n) (omega arith)
+    rw (k 0 (omega arith), k 1 (omega arith), k 2 (omega arith), k 3 (omega arith), and-comm (isRunning a), and-comm (isRunning b), and-comm (isRunning c), and-comm (isRunning d), take-nil n) (omega arith)
 
 -- from the fifth byte on, or from the end of fewer
 pub past-five : (e : List ℕ) → drop (cond (ltb (length e) 5) (length e) 5) e ≡ drop 5 e

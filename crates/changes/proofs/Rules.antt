@@ -9,19 +9,19 @@ use native.Mathlib.Omega.{arith}
 use lib.Dec.{eqb, ltb, leb}
 use lib.ListN.{getD}
 use borrow.Author.Tests.{eqb-true, eqb-false, eq-eqb, ne-eqb, lt-ltb, leb-false}
+use Rattle.laws.proofs.Each.{_▹_}
 use Rattle.telegram.specs.Telegram.{readTelegram, rowOf}
 use Rattle.telegram.specs.declared.message.Number.{Number}
 use Rattle.telegram.specs.declared.message.Reading.{Reading}
 use Rattle.telegram.specs.declared.message.Reading.the-variants.{Telegram, Refused}
 use Rattle.channel.specs.declared.state.Channel.{Channel}
-use Rattle.set_rules.specs.ByKind.{pick}
+use Rattle.laws.specs.Table.{pick}
 use Rattle.set_rules.specs.State.{noDesk, hasChannel, channelAt}
 use Rattle.set_rules.specs.Entries.{telegramIn}
 use Rattle.set_rules.specs.Refusals.{Lookup, lookup, Test, isKind, deskSends, codeIs, identifierIs, bodyReads, askedBy, askedIn, namedBy, table, firstOf, refusalOf}
 use Rattle.set_rules.specs.SetRules.{Effect, accepted, byHolder, onRequest}
 use Rattle.set_rules.specs.Feeds.{Outcome, refuse, emit, outcomeOf}
-use Rattle.set_rules.specs.Invariant.{Each}
-use Rattle.set_rules.proofs.ByKind.{_▹_}
+use Rattle.laws.specs.Each.{Each}
 use Rattle.set_rules.specs.declared.state.Desk.{Desk}
 use Rattle.set_rules.specs.declared.state.Entry.{Entry}
 use Rattle.set_rules.specs.declared.state.LineSet.{LineSet}

@@ -6,6 +6,7 @@ use mathlib.Core.Bool.{Bool, true, false, false≢true}
 use mathlib.Core.Path.{_≡_, refl, sym, ap, _∙_}
 use lib.Dec.{eqb}
 use borrow.Author.Tests.{eq-eqb, ne-eqb}
+use Rattle.laws.proofs.Tests.{by-test}
 use Rattle.channel.specs.declared.state.Holder.{Holder}
 use Rattle.channel.specs.declared.state.Holder.the-variants.{Nobody, Held}
 use Rattle.channel.specs.declared.state.Call.{Call}
@@ -14,7 +15,7 @@ use Rattle.channel.specs.declared.state.Arrival.{Arrival}
 use Rattle.channel.specs.declared.state.Arrival.the-variants.{Absent, Present}
 use Rattle.channel.specs.declared.state.Channel.{Channel}
 use Rattle.set_rules.specs.declared.state.Desk.{Desk}
-use Rattle.controller.specs.Plain.{holderIn, callIn, arrivalIn, channelIn, deskIn, setIn, flagOf, holderOf, callOf, arrivalOf, channelOf, deskOf, plainOf, plainAfter}
+use Rattle.controller.specs.Plain.{holderIn, callIn, arrivalIn, channelIn, deskIn, setIn, flagOf, holderOf, callOf, arrivalOf, channelOf, deskOf, plainOf}
 use Rattle.set_rules.proofs.Answers.{refused}
 use Rattle.set_rules.specs.Feeds.{stepOf}
 use Rattle.controller.specs.Promises.{Returns, Untouched, Stepped}
@@ -49,8 +50,8 @@ pub untouched : Untouched
 untouched p e room h = rw (ne-eqb (stepOf (setIn p) e room .refusal) 0 h) refl
 
 pub stepped : Stepped
-stepped s e room = rw (returns s) (go (eqb (stepOf s e room .refusal) 0) refl)
-  where
-    go : (t : Bool) → eqb (stepOf s e room .refusal) 0 ≡ t → plainAfter (plainOf s) (stepOf s e room) ≡ plainOf (stepOf s e room .after)
-    go true k = rw k refl
-    go false k = rw k (ap plainOf (sym (refused s e room (λ z. false≢true (sym k ∙ eq-eqb (stepOf s e room .refusal) 0 z)) .1)))
+stepped s e room =
+    rw (returns s)
+    (by-test (eqb (stepOf s e room .refusal) 0)
+    (λ k. rw k refl)
+    (λ k. rw k (ap plainOf (sym (refused s e room (λ z. false≢true (sym k ∙ eq-eqb (stepOf s e room .refusal) 0 z)) .1)))))

@@ -2,15 +2,15 @@
 -- Assumes nothing.
 use Prim.Native.Nat.{ℕ, _+_, _-_, _*_, _≤_}
 use mathlib.Core.List.{List}
-use mathlib.Core.Bool.{Bool, true, false, _&&_, false≢true}
-use mathlib.Core.Path.{_≡_, refl, sym, ap, _∙_}
+use mathlib.Core.Bool.{true, false, _&&_}
+use mathlib.Core.Path.{_≡_, refl, sym, ap}
 use native.Mathlib.Omega.{arith}
 use lib.Dec.{leb, eqb}
 use lib.ListN.{length, take, drop}
 use borrow.Author.Tests.{leb-true, eqb-true}
+use Rattle.laws.proofs.Lists.{part-to-end}
+use Rattle.laws.proofs.Tests.{both, cond-taken, cond-left, flag-taken, flag-left}
 use Rattle.fields.specs.Fields.{between}
-use Rattle.fields.proofs.DigitLaws.{both}
-use Rattle.telegram.proofs.TelegramLaws.{part-to-end}
 use Rattle.set_rules.specs.State.{noDesk, noChannel}
 use Rattle.set_rules.specs.Plan.{deskOk, desksOk, desksIn, channelsOk, channelsIn, deskCount, desksPart, channelCount, channelsPart, filled}
 use Rattle.set_rules.specs.declared.state.Desk.{Desk}
@@ -23,19 +23,17 @@ use Rattle.entries.specs.declared.plan.Counts.the-variants.{Are, Bad as 
 use Rattle.entries.proofs.Filled.{take-filled}
 use Rattle.entries.proofs.Turns.{length-desks}
 
+counts-none : (k : Size) → Are k ≡ BadCounts → ⊥
+counts-none k q = let z : _≡_ {A = ℕ} 0 1 = cc in omega arith
+
 pub counts-found : (p : List ℕ) (k : Size) → countsIn p ≡ Are k → (countsOk p ≡ true) × (k ≡ sizeOf p)
-counts-found p k e = go (countsOk p) refl
-  where
-    go : (t : Bool) → countsOk p ≡ t → (countsOk p ≡ true) × (k ≡ sizeOf p)
-    go true h = (h, let f : Are (sizeOf p) ≡ Are k = rw h at e in cc)
-    go false h = absurd (let f : BadCounts ≡ Are k = rw h at e in let z : _≡_ {A = ℕ} 0 1 = cc in omega arith)
+counts-found p k e =
+    let t = cond-taken (countsOk p) (Are (sizeOf p)) BadCounts e (λ q. counts-none k (sym q)) in
+    let g : Are (sizeOf p) ≡ Are k = t .1 in
+    (t .0, cc)
 
 pub counts-bad : (p : List ℕ) → countsIn p ≡ BadCounts → countsOk p ≡ false
-counts-bad p e = go (countsOk p) refl
-  where
-    go : (t : Bool) → countsOk p ≡ t → countsOk p ≡ false
-    go true h = absurd (let f : Are (sizeOf p) ≡ BadCounts = rw h at e in let z : _≡_ {A = ℕ} 0 1 = cc in omega arith)
-    go false h = h
+counts-bad p e = cond-left (countsOk p) (Are (sizeOf p)) BadCounts e (counts-none (sizeOf p)) .0
 
 -- what right counts say
 pub record Counted (p : List ℕ) : Type 0 where
@@ -54,61 +52,45 @@ counted p h =
       size = eqb-true _ _ (a .1);
     }
 
+desk-none : (k : Desk) → Is k ≡ Bad → ⊥
+desk-none k q = let z : _≡_ {A = ℕ} 0 1 = cc in omega arith
+
 pub desk-found : (b : List ℕ) (k : Desk) → deskIn b ≡ Is k → (deskOk b ≡ true) × (k ≡ deskOf b)
-desk-found b k e = go (deskOk b) refl
-  where
-    go : (t : Bool) → deskOk b ≡ t → (deskOk b ≡ true) × (k ≡ deskOf b)
-    go true h = (h, let f : Is (deskOf b) ≡ Is k = rw h at e in cc)
-    go false h = absurd (let f : Bad ≡ Is k = rw h at e in let z : _≡_ {A = ℕ} 0 1 = cc in omega arith)
+desk-found b k e =
+    let t = cond-taken (deskOk b) (Is (deskOf b)) Bad e (λ q. desk-none k (sym q)) in
+    let g : Is (deskOf b) ≡ Is k = t .1 in
+    (t .0, cc)
 
 pub desk-bad : (b : List ℕ) → deskIn b ≡ Bad → deskOk b ≡ false
-desk-bad b e = go (deskOk b) refl
-  where
-    go : (t : Bool) → deskOk b ≡ t → deskOk b ≡ false
-    go true h = absurd (let f : Is (deskOf b) ≡ Bad = rw h at e in let z : _≡_ {A = ℕ} 0 1 = cc in omega arith)
-    go false h = h
+desk-bad b e = cond-left (deskOk b) (Is (deskOf b)) Bad e (desk-none (deskOf b)) .0
 
-pub desks-found : (n : ℕ) (b : List ℕ) (r : Desks) → r ≡ desksRead n b → r .ok ≡ true
-    → (desksOk n b ≡ true) × (r .desks ≡ filled 4 noDesk (desksIn n b))
-unfolding desksRead
-desks-found n b r e o = go (desksOk n b) refl
-  where
-    go : (t : Bool) → desksOk n b ≡ t → (desksOk n b ≡ true) × (r .desks ≡ filled 4 noDesk (desksIn n b))
-    go true h =
-        let f : r ≡ record { desks = filled 4 noDesk (desksIn n b); ok = true } = rw h at e in
-        (h, ap (λ (x : Desks). x .desks) f)
-    go false h = let f : r ≡ noDesks = rw h at e in absurd (false≢true (sym (ap (λ (x : Desks). x .ok) f) ∙ o))
+module _ (n : ℕ) (b : List ℕ) (r : Desks) (e : r ≡ desksRead n b) where
+  abbrev read-desks : Desks
+  read-desks = record { desks = filled 4 noDesk (desksIn n b); ok = true }
 
-pub desks-bad : (n : ℕ) (b : List ℕ) (r : Desks) → r ≡ desksRead n b → r .ok ≡ false → desksOk n b ≡ false
-unfolding desksRead
-desks-bad n b r e o = go (desksOk n b) refl
-  where
-    go : (t : Bool) → desksOk n b ≡ t → desksOk n b ≡ false
-    go true h =
-        let f : r ≡ record { desks = filled 4 noDesk (desksIn n b); ok = true } = rw h at e in
-        absurd (false≢true (sym o ∙ ap (λ (x : Desks). x .ok) f))
-    go false h = h
+  pub desks-found : r .ok ≡ true → (desksOk n b ≡ true) × (r .desks ≡ filled 4 noDesk (desksIn n b))
+  unfolding desksRead
+  desks-found o =
+      let t = flag-taken (λ (x : Desks). x .ok) (desksOk n b) read-desks noDesks e refl o in
+      (t .0, ap (λ (x : Desks). x .desks) (t .1))
 
-pub channels-found : (n desks : ℕ) (b : List ℕ) (r : Channels) → r ≡ channelsRead n desks b → r .ok ≡ true
-    → (channelsOk n 0 desks b ≡ true) × (r .channels ≡ filled 32 noChannel (channelsIn n b))
-unfolding channelsRead
-channels-found n desks b r e o = go (channelsOk n 0 desks b) refl
-  where
-    go : (t : Bool) → channelsOk n 0 desks b ≡ t → (channelsOk n 0 desks b ≡ true) × (r .channels ≡ filled 32 noChannel (channelsIn n b))
-    go true h =
-        let f : r ≡ record { channels = filled 32 noChannel (channelsIn n b); ok = true } = rw h at e in
-        (h, ap (λ (x : Channels). x .channels) f)
-    go false h = let f : r ≡ noChannels = rw h at e in absurd (false≢true (sym (ap (λ (x : Channels). x .ok) f) ∙ o))
+  pub desks-bad : r .ok ≡ false → desksOk n b ≡ false
+  unfolding desksRead
+  desks-bad o = flag-left (λ (x : Desks). x .ok) (desksOk n b) read-desks noDesks e refl o
 
-pub channels-bad : (n desks : ℕ) (b : List ℕ) (r : Channels) → r ≡ channelsRead n desks b → r .ok ≡ false → channelsOk n 0 desks b ≡ false
-unfolding channelsRead
-channels-bad n desks b r e o = go (channelsOk n 0 desks b) refl
-  where
-    go : (t : Bool) → channelsOk n 0 desks b ≡ t → channelsOk n 0 desks b ≡ false
-    go true h =
-        let f : r ≡ record { channels = filled 32 noChannel (channelsIn n b); ok = true } = rw h at e in
-        absurd (false≢true (sym o ∙ ap (λ (x : Channels). x .ok) f))
-    go false h = h
+module _ (n desks : ℕ) (b : List ℕ) (r : Channels) (e : r ≡ channelsRead n desks b) where
+  abbrev read-channels : Channels
+  read-channels = record { channels = filled 32 noChannel (channelsIn n b); ok = true }
+
+  pub channels-found : r .ok ≡ true → (channelsOk n 0 desks b ≡ true) × (r .channels ≡ filled 32 noChannel (channelsIn n b))
+  unfolding channelsRead
+  channels-found o =
+      let t = flag-taken (λ (x : Channels). x .ok) (channelsOk n 0 desks b) read-channels noChannels e refl o in
+      (t .0, ap (λ (x : Channels). x .channels) (t .1))
+
+  pub channels-bad : r .ok ≡ false → channelsOk n 0 desks b ≡ false
+  unfolding channelsRead
+  channels-bad o = flag-left (λ (x : Channels). x .ok) (channelsOk n 0 desks b) read-channels noChannels e refl o
 
 -- ---- the parts of a plan that its readers are given
 

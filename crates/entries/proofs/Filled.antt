@@ -1,18 +1,14 @@
 -- An array of fillers into which items are stored from the front on is the items with fillers behind them.
 -- Assumes nothing.
-use Prim.Native.Nat.{ℕ, zero, suc, _+_, _-_, _≤_}
+use Prim.Native.Nat.{ℕ, _+_, _-_, _≤_}
 use mathlib.Core.List.{List}
 use mathlib.Core.Path.{_≡_, sym, _∙_}
 use native.Mathlib.Omega.{arith}
-use native.Mathlib.Nat.{zero-add, sub-zero, zero-sub, suc-sub-suc}
-use lib.ListN.{length, take, drop, replicate, length-replicate}
+use native.Mathlib.Nat.{zero-add}
+use lib.ListN.{length, take, replicate, length-replicate}
 use lib.Seq.{sets, sets-eq, take-at}
+use Rattle.laws.proofs.Lists.{drop-replicate}
 use Rattle.set_rules.specs.Plan.{filled}
-
-drop-replicate : {A : Type 0} (n k : ℕ) (z : A) → drop k (replicate n z) ≡ replicate (n - k) z
-drop-replicate n zero z = rw sub-zero
-drop-replicate zero (suc k) z = rw zero-sub
-drop-replicate (suc n) (suc k) z = rw suc-sub-suc (drop-replicate n k z)
 
 pub filled-sets : {A : Type 0} (n : ℕ) (z : A) (items : List A) → length items ≤ n → filled n z items ≡ sets (replicate n z) 0 items
 filled-sets n z items h =

@@ -10,8 +10,8 @@ use lib.ListN.{length, drop, getD}
 use lib.Seq.{drop-drop, getD-drop}
 use lib.Dec.{leb}
 use borrow.Author.Tests.{leb-true}
+use Rattle.laws.proofs.Tests.{both}
 use Rattle.fields.specs.Fields.{between}
-use Rattle.fields.proofs.DigitLaws.{both}
 use Rattle.channel.specs.State.{freeChannel, firstDesks}
 use Rattle.set_rules.specs.Plan.{deskOk, desksOk, desksIn, channelsOk, channelsIn}
 use Rattle.entries.specs.Planned.{deskOf}

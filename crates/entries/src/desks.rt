@@ -8,7 +8,6 @@ ghost use mathlib.Core.Path.{_≡_};
 ghost use mathlib.Core.Bool.{not};
 ghost use Prim.Native.Nat.{_*_, _≤_};
 ghost use lib.ListN.{length, take};
-ghost use Rattle.set_rules.specs.State.{noDesk};
 ghost use Rattle.set_rules.specs.Plan.{distinct};
 ghost use Rattle.entries.specs.Planned.{deskIn, noDesks, desksRead};
 
@@ -24,22 +23,10 @@ pub struct Desks {
     pub ok: bool,
 }
 
-// What fills the array past the plan's desks.
-fn no_desk() -> Desk
-    ensures { λ r. ⌜ r ≡ noDesk ⌝ }
-{
-    let link = Link::new();
-    Desk {
-        code: 0,
-        number: Number::NONE,
-        link,
-    }
-}
-
 fn no_desks() -> Desks
     ensures { λ r. ⌜ r ≡ noDesks ⌝ }
 {
-    let desk = no_desk();
+    let desk = Desk::none();
     Desks {
         desks: [desk; 4],
         ok: false,
@@ -76,7 +63,7 @@ pub fn read_desks(s: &[u8], n: usize) -> Desks
     requires { ⌜ (n ≤ 4) × (10 * n ≤ length (now s)) ⌝ }
     ensures { λ r. ⌜ r ≡ desksRead n (now (s .entry)) ⌝ }
 {
-    let filler = no_desk();
+    let filler = Desk::none();
     let mut desks = [filler; 4];
     let mut at = 0;
     let mut i = 0;

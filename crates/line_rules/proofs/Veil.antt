@@ -2,10 +2,11 @@
 -- and arrival that B was not told of; a rule goes by what is left: `hide (rule (hide c)) ≡ hide (rule c)`.
 -- Assumes nothing.
 use Prim.Native.Nat.{ℕ, zero, suc, _-_}
-use mathlib.Core.List.{List, [], _∷_, _++_}
-use mathlib.Core.Bool.{Bool, true, false, cond}
+use mathlib.Core.List.{List, [], map, map-append}
+use mathlib.Core.Bool.{Bool, true, false}
 use mathlib.Core.Path.{_≡_, refl, ap}
 use lib.Dec.{eqb, leb, ltb}
+use Rattle.laws.proofs.Tests.{cond-of}
 use Rattle.telegram.specs.Telegram.{num}
 use Rattle.telegram.specs.declared.message.Number.{Number}
 use Rattle.channel.specs.State.{isHeld, freeChannel, heldBy, holderPlace, only, isIn, isPresent}
@@ -65,8 +66,7 @@ module _ (B : ℕ) where
   hideSend s = to (s .recipients) (hideNotice (isIn B (s .recipients)) (s .notice))
 
   abbrev pub hideSends : List Send → List Send
-  hideSends [] = []
-  hideSends (s ∷ ss) = hideSend s ∷ hideSends ss
+  hideSends = map hideSend
 
   abbrev pub hideStep : Step → Step
   hideStep st = step (hide (st .next)) (hideSends (st .sends))
@@ -112,18 +112,6 @@ module _ (B : ℕ) where
   off-hide Absent = refl
   off-hide (Present k b n m) = simp veil-twice refl
 
-  append-hide : (xs ys : List Send) → hideSends (xs ++ ys) ≡ hideSends xs ++ hideSends ys
-  append-hide [] ys = refl
-  append-hide (x ∷ xs) ys = ap (λ (l : List Send). hideSend x ∷ l) (append-hide xs ys)
-
-  cond-sends : (t : Bool) (xs ys : List Send) → hideSends (cond t xs ys) ≡ cond t (hideSends xs) (hideSends ys)
-  cond-sends true xs ys = refl
-  cond-sends false xs ys = refl
-
-  cond-step : (t : Bool) (a b : Step) → hideStep (cond t a b) ≡ cond t (hideStep a) (hideStep b)
-  cond-step true a b = refl
-  cond-step false a b = refl
-
   -- ---- the rules, one by one
 
   still-hide : (c : Channel) (ss : List Send) → hideStep (step (hide c) ss) ≡ hideStep (step c ss)
@@ -139,7 +127,7 @@ module _ (B : ℕ) where
 
   cut-hide : (x : Context) (c : Channel) → hideStep (cut x (hide c)) ≡ hideStep (cut x c)
   unfolding cut
-  cut-hide x c = simp (append-hide, cond-sends, kind-hide, end-hide, arrival-twice) refl
+  cut-hide x c = simp (map-append hideSend, cond-of hideSends, kind-hide, end-hide, arrival-twice) refl
 
   pressOn-hide : (x : Context) (c : Channel) → hideStep (pressOn x (hide c)) ≡ hideStep (pressOn x c)
   unfolding pressOn
@@ -159,23 +147,23 @@ module _ (B : ℕ) where
 
   tickQuiet-hide : (c : Channel) → hideStep (tickQuiet (hide c)) ≡ hideStep (tickQuiet c)
   unfolding tickQuiet
-  tickQuiet-hide c = simp (cond-step, end-hide, call-twice, arrival-twice) refl
+  tickQuiet-hide c = simp (cond-of hideStep, end-hide, call-twice, arrival-twice) refl
 
   tickRelease-hide : (x : Context) (c : Channel) → hideStep (tickRelease x (hide c)) ≡ hideStep (tickRelease x c)
   unfolding tickRelease
-  tickRelease-hide x c = simp (cond-step, call-twice, arrival-twice) refl
+  tickRelease-hide x c = simp (cond-of hideStep, call-twice, arrival-twice) refl
 
   tickIdle-hide : (x : Context) (c : Channel) → hideStep (tickIdle x (hide c)) ≡ hideStep (tickIdle x c)
   unfolding tickIdle
-  tickIdle-hide x c = simp (cond-step, tickQuiet-hide c, tickRelease-hide x c, still-hide c []) refl
+  tickIdle-hide x c = simp (cond-of hideStep, tickQuiet-hide c, tickRelease-hide x c, still-hide c []) refl
 
   tick-hide : (x : Context) (c : Channel) → hideStep (tick x (hide c)) ≡ hideStep (tick x c)
   unfolding tick
-  tick-hide x c = simp (cond-step, present-hide, tickIdle-hide x c, still-hide c []) refl
+  tick-hide x c = simp (cond-of hideStep, present-hide, tickIdle-hide x c, still-hide c []) refl
 
   handover-hide : (x : Context) (c : Channel) → hideStep (handover x (hide c)) ≡ hideStep (handover x c)
   unfolding handover
-  handover-hide x c = simp (append-hide, cond-sends, kind-hide, off-hide, end-hide) refl
+  handover-hide x c = simp (map-append hideSend, cond-of hideSends, kind-hide, off-hide, end-hide) refl
 
   release-hide : (x : Context) (d : ℕ) (c : Channel) → hideStep (release x d (hide c)) ≡ hideStep (release x d c)
   unfolding release
@@ -183,7 +171,7 @@ module _ (B : ℕ) where
       let k = cut-hide x c in
       let n : hide (cut x (hide c) .next) ≡ hide (cut x c .next) = ap (λ (st : Step). st .next) k in
       let s : hideSends (cut x (hide c) .sends) ≡ hideSends (cut x c .sends) = ap (λ (st : Step). st .sends) k in
-      simp (cond-step, n, s, call-twice, arrival-twice) refl
+      simp (cond-of hideStep, n, s, call-twice, arrival-twice) refl
 
   -- A rule goes by what is left of the channel.
   pub happens-hide : (v : Event) (x : Context) (c : Channel) → hideStep (happens v x (hide c)) ≡ hideStep (happens v x c)
@@ -217,4 +205,4 @@ module _ (B : ℕ) where
       let m = mobileRecipients (c .holder) (x .listeners) in
       let o = opened-number (c .call) b m n n′ h in
       let s = opening-number (c .call) b m n n′ h in
-      simp append-hide (simp (o, s, h) refl)
+      simp (map-append hideSend) (simp (o, s, h) refl)

@@ -1,43 +1,42 @@
 -- What is promised of the line rules of one channel, for every channel and every context. `proofs/` proves each under the
 -- name given with it. Most of them shut out one of 01's traps on the bench.
 use Prim.Native.Nat.{ℕ, zero, suc}
-use mathlib.Core.List.{List, [], _∷_, _++_}
+use mathlib.Core.List.{List, [], _∷_, _++_, map}
 use mathlib.Core.Bool.{true, false}
 use mathlib.Core.Path.{_≡_}
 use lib.Dec.{eqb, ltb}
 use lib.ListN.{replicate}
+use Rattle.laws.specs.Each.{Each}
 use Rattle.telegram.specs.Telegram.{num}
 use Rattle.telegram.specs.declared.message.Number.{Number}
 use Rattle.channel.specs.State.{only, holderPlace}
-use Rattle.line_rules.specs.Rules.{Context, cut, pressOff, mobileOn, mobileOff, tick, endOf, freedSends, happens}
+use Rattle.line_rules.specs.Rules.{Context, quietTime, releaseTime, cut, pressOff, mobileOn, mobileOff, tick, endOf, freedSends, happens}
 use Rattle.line_rules.specs.Notices.{contentFor}
 use Rattle.channel.specs.declared.state.Holder.the-variants.{Held}
+use Rattle.channel.specs.declared.state.Call.{Call}
 use Rattle.channel.specs.declared.state.Arrival.{Arrival}
 use Rattle.channel.specs.declared.state.Arrival.the-variants.{Absent, Present}
 use Rattle.channel.specs.declared.state.Channel.{Channel}
 use Rattle.channel.specs.declared.state.Event.{Event}
 use Rattle.channel.specs.declared.state.Event.the-variants.{Capture, Release, Cut, PressOn, PressOff, MobileOn, MobileOff, Tick, Handover}
 use Rattle.channel.specs.declared.state.Notice.{Notice}
-use Rattle.channel.specs.declared.state.Notice.the-variants.{PressAnswer, Incoming, BaseArrival, Call, CallerNotice, CaptureReply, CaptureState}
+use Rattle.channel.specs.declared.state.Notice.the-variants.{PressAnswer, Incoming, BaseArrival, Call as CallNotice, CallerNotice, CaptureReply, CaptureState}
 use Rattle.channel.specs.declared.state.Send.{Send}
 
 abbrev pub recipientsOf : List Send → List ℕ
-recipientsOf [] = []
-recipientsOf (s ∷ ss) = s .recipients ∷ recipientsOf ss
+recipientsOf = map (λ (s : Send). s .recipients)
 
 -- A mobile off goes to those who were told of its mobile on, whoever holds or listens by then (`Traps.off-to-the-told`).
 abbrev pub OffToTheTold : Type 0
 OffToTheTold =
     (c : Channel) (k b m : ℕ) (n : Number) → c .arrival ≡ Present k b n m → recipientsOf (mobileOff c .sends) ≡ m ∷ m ∷ m ∷ []
 
--- all of these go to one set
-abbrev pub AllTo : ℕ → List Send → Type 0
-AllTo m [] = Unit {0}
-AllTo m (s ∷ ss) = (s .recipients ≡ m) × AllTo m ss
+abbrev pub GoesTo : ℕ → Send → Type 0
+GoesTo m s = s .recipients ≡ m
 
 -- A mobile on, on a held channel, goes to the holder alone (`Traps.on-to-the-holder`).
 abbrev pub OnToTheHolder : Type 0
-OnToTheHolder = (x : Context) (b : ℕ) (n : Number) (c : Channel) (d : ℕ) → c .holder ≡ Held d → AllTo (only d) (mobileOn x b n c .sends)
+OnToTheHolder = (x : Context) (b : ℕ) (n : Number) (c : Channel) (d : ℕ) → c .holder ≡ Held d → Each (GoesTo (only d)) (mobileOn x b n c .sends)
 
 -- the recipients that an arrival keeps
 abbrev pub keptIn : Arrival → ℕ
@@ -46,21 +45,20 @@ keptIn (Present k b n m) = m
 
 -- A mobile on keeps whom it tells: all of it goes to the recipients of the arrival that it makes (`Traps.told-are-kept`).
 abbrev pub ToldAreKept : Type 0
-ToldAreKept = (x : Context) (b : ℕ) (n : Number) (c : Channel) → AllTo (keptIn (mobileOn x b n c .next .arrival)) (mobileOn x b n c .sends)
+ToldAreKept = (x : Context) (b : ℕ) (n : Number) (c : Channel) → Each (GoesTo (keptIn (mobileOn x b n c .next .arrival))) (mobileOn x b n c .sends)
 
 -- if a notice is a 550651, it is about this desk
 abbrev pub About : ℕ → Notice → Type 0
 About d (PressAnswer on) = Unit {0}
 About d (Incoming on) = Unit {0}
 About d (BaseArrival k b n o) = Unit {0}
-About d (Call k w b s t r) = Unit {0}
+About d (CallNotice k w b s t r) = Unit {0}
 About d (CallerNotice k w b n o) = Unit {0}
 About d (CaptureReply r) = Unit {0}
 About d (CaptureState h n s) = h ≡ d
 
-abbrev pub AllAbout : ℕ → List Send → Type 0
-AllAbout d [] = Unit {0}
-AllAbout d (s ∷ ss) = About d (s .notice) × AllAbout d ss
+abbrev pub IsAbout : ℕ → Send → Type 0
+IsAbout d s = About d (s .notice)
 
 -- whose number an event's 550651 has: that of the desk that captures, or else the holder's
 abbrev pub shownBy : Event → Channel → ℕ
@@ -76,7 +74,7 @@ shownBy Handover c = holderPlace (c .holder)
 
 -- Every 550651 that an event sends is about the desk that captures, or the holder (`Traps.about-the-holder`).
 abbrev pub AboutTheHolder : Type 0
-AboutTheHolder = (v : Event) (x : Context) (c : Channel) → AllAbout (shownBy v c) (happens v x c .sends)
+AboutTheHolder = (v : Event) (x : Context) (c : Channel) → Each (IsAbout (shownBy v c)) (happens v x c .sends)
 
 -- A 550651 says the same to a desk that it is not about, whatever the number (`Traps.number-for-the-holder`).
 abbrev pub NumberForTheHolder : Type 0
@@ -91,6 +89,11 @@ ArrivalOutlivesACut = (x : Context) (c : Channel) → cut x c .next .arrival ≡
 -- While the quiet timer runs, a tick leaves the release timer alone (`Traps.one-timer-at-a-time`).
 abbrev pub OneTimerAtATime : Type 0
 OneTimerAtATime = (x : Context) (c : Channel) → ltb 0 (c .quiet) ≡ true → tick x c .next .release ≡ c .release
+
+-- a held channel with no press and no arrival, its timers just started
+unfoldable pub quietly : ℕ → ℕ → ℕ → Call → Channel
+quietly code entitled d k =
+    record { code = code; entitled = entitled; holder = Held d; pressed = false; call = k; arrival = Absent; quiet = quietTime; release = releaseTime }
 
 -- what each of so many ticks sends
 unfoldable pub sentByTicks : ℕ → Context → Channel → List (List Send)

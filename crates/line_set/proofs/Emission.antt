@@ -8,6 +8,7 @@ use native.Mathlib.Omega.{arith}
 use lib.ListN.{length}
 use borrow.Author.Tests.{lt-leb}
 use Rattle.lines.specs.Sending.{sendsAny}
+use Rattle.laws.proofs.Lists.{none-long}
 use Rattle.channel.specs.declared.state.Send.{Send}
 use Rattle.records.specs.Emitting.{written}
 use Rattle.records.proofs.Writing.{written-none}
@@ -32,10 +33,6 @@ refused s n b e = record { answer = e; bytes = refl }
 pub no-room : (s : LineSet) (f : Effect) (b : List ℕ) {r : Answer} → length b < spaceOf (f .sent) → r ≡ answerOf (refuse 16 s) → Gives (emit s f (length b)) r b b
 no-room s f b h e = rw (lt-leb (spaceOf (f .sent)) (length b) h) (refused s 16 b e)
 
-no-length : (xs : List ℕ) → length xs ≡ 0 → xs ≡ []
-no-length [] h = refl
-no-length (x ∷ xs) h = absurd (omega arith)
-
 -- records that take no space are none
 pub unwritten : (b : List ℕ) (ds : List Desk) (vs : List Delivery) → spaceOf vs ≡ 0 → AllEven vs → b ≡ written b 0 (recordsOf ds vs)
-unwritten b ds vs h e = sym (ap (λ (l : List ℕ). written b 0 l) (no-length (recordsOf ds vs) (sym (space-length ds vs e) ∙ h)) ∙ written-none b 0)
+unwritten b ds vs h e = sym (ap (λ (l : List ℕ). written b 0 l) (none-long (recordsOf ds vs) (sym (space-length ds vs e) ∙ h)) ∙ written-none b 0)

@@ -8,9 +8,11 @@ use native.Mathlib.Omega.{arith}
 use lib.Dec.{eqb, leb, ltb}
 use lib.ListN.{length}
 use borrow.Author.Tests.{leb-true, eqb-true, ltb-true, ltb-false, ne-eqb}
-use Rattle.fields.proofs.DigitLaws.{both}
-use Rattle.set_rules.proofs.ByKind.{_▹_, pick-each}
+use Rattle.laws.proofs.Tests.{both}
+use Rattle.laws.proofs.Each.{_▹_}
+use Rattle.laws.proofs.Table.{pick-each}
 use Rattle.set_rules.specs.Entries.{byte, measured, payload, sizes, sizeOk, payloadOk, readEntry}
+use Rattle.laws.proofs.Tests.{both}
 
 kind-is : (k : ℕ) (e : List ℕ) → payload k e .kind ≡ k
 kind-is k e = go (eqb k 1) refl (eqb k 2) refl (eqb k 3) refl (eqb k 4) refl (eqb k 5) refl

@@ -1,9 +1,9 @@
 -- Laws on finding channels by their place.
 -- Assumes nothing.
-use Prim.Native.Nat.{ℕ, zero, suc, _+_, _≤_, _<_}
-use mathlib.Core.List.{List, [], _∷_}
+use Prim.Native.Nat.{ℕ, _+_, _≤_, _<_}
+use mathlib.Core.List.{List}
 use mathlib.Core.Bool.{Bool, true, false, cond}
-use mathlib.Core.Path.{_≡_, refl, sym, ap}
+use mathlib.Core.Path.{_≡_, refl, sym}
 use native.Mathlib.Omega.{arith}
 use native.Mathlib.Nat.{zero-add}
 use native.Mathlib.Numerals.{add-one}
@@ -13,27 +13,6 @@ use lib.Seq.{drop-cons, length-take-le, take-all}
 use borrow.Author.Tests.{ltb-true, ltb-false}
 use Rattle.channel.specs.declared.state.Channel.{Channel}
 use Rattle.set_rules.specs.State.{placeOf}
-
--- an element among the first n
-pub at-taken : {A : Type 0} (xs : List A) (n i : ℕ) (y z : A) → i < length (take n xs) → getD (take n xs) i y ≡ getD xs i z
-at-taken xs zero i y z h = absurd (omega arith)
-at-taken [] (suc n) i y z h = absurd (omega arith)
-at-taken (x ∷ xs) (suc n) zero y z h = refl
-at-taken (x ∷ xs) (suc n) (suc i) y z h = at-taken xs n i y z (omega arith)
-
--- ---- as many as a plan has
-
-pub take-count : {A : Type 0} (n : ℕ) (xs : List A) → take (length (take n xs)) xs ≡ take n xs
-take-count zero xs = refl
-take-count (suc n) [] = refl
-take-count (suc n) (x ∷ xs) = ap (λ (l : List _). x ∷ l) (take-count n xs)
-
-pub drop-count : {A : Type 0} (n : ℕ) (xs : List A) → drop (length (take n xs)) xs ≡ drop n xs
-drop-count zero xs = refl
-drop-count (suc n) [] = refl
-drop-count (suc n) (x ∷ xs) = drop-count n xs
-
--- ---- the place of a code
 
 -- how many of 32 are the first n
 pub count-is : {A : Type 0} (xs : List A) (n : ℕ) → length xs ≡ 32 → cond (ltb 32 n) 32 n ≡ length (take n xs)

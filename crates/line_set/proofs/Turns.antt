@@ -10,6 +10,7 @@ use native.Mathlib.Omega.{arith}
 use lib.ListN.{length, take, drop, getD, set, drop-of-length-le}
 use lib.Seq.{drop-cons, take-suc, set-at, getD-at, set-getD, length-take-le}
 use borrow.Author.Tests.{eqb-true}
+use Rattle.laws.proofs.Lists.{take-count, drop-count}
 use Rattle.channel.specs.State.{holderPlace}
 use Rattle.line_rules.specs.Rules.{Context, Step, tick, happens}
 use Rattle.channel.specs.declared.state.Channel.{Channel}

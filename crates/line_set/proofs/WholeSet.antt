@@ -5,7 +5,7 @@ use mathlib.Core.List.{List}
 use mathlib.Core.Bool.{Bool, true, false, cond}
 use mathlib.Core.Path.{_≡_, refl, sym}
 use Rattle.entries.specs.Planned.{planOf}
-use Rattle.set_rules.specs.ByKind.{pick}
+use Rattle.laws.specs.Table.{pick}
 use Rattle.set_rules.specs.Entries.{planIn}
 use Rattle.set_rules.specs.Plan.{planOk, setOf}
 use Rattle.set_rules.specs.Refusals.{firstOf, refusalOf}

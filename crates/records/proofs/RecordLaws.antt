@@ -11,7 +11,7 @@ use lib.Dec.{lit≤}
 use lib.ListN.{getD}
 use borrow.Author.Tests.{eq-eqb, ne-eqb}
 use Rattle.telegram.specs.Telegram.{sizeOf}
-use Rattle.telegram.proofs.SizeLaws.{length-telegram}
+use Rattle.telegram.proofs.Kept.{length-telegram}
 use Rattle.line_rules.specs.Notices.{Content, telegram, contact, contentFor}
 use Rattle.channel.specs.declared.state.Notice.{Notice}
 use Rattle.channel.specs.declared.state.Notice.the-variants.{PressAnswer, Incoming, BaseArrival, Call, CallerNotice, CaptureReply, CaptureState}

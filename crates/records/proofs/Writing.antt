@@ -6,9 +6,9 @@ use mathlib.Core.Path.{_≡_, refl, sym, ap, _∙_}
 use native.Mathlib.Nat.{zero-add, le-refl}
 use native.Mathlib.Omega.{arith}
 use lib.ListN.{length, take, drop, length-drop, length-append, drop-of-length-le}
-use lib.Seq.{sets, sets-eq, take-all, drop-drop, length-sets}
+use lib.Seq.{sets-eq, drop-drop, length-sets}
+use Rattle.laws.proofs.Lists.{sets-append, part-to-end}
 use Rattle.telegram.specs.Telegram.{over}
-use Rattle.telegram_forms.proofs.PutLaws.{sets-append}
 use Rattle.records.specs.Emitting.{written, PutAt}
 
 -- one run of bytes after another is the run of both
@@ -34,10 +34,9 @@ pub part-back : (xs : List ℕ) (a : ℕ) (vs ys : List ℕ) → a + length vs �
     → take a xs ++ (ys ++ drop (length xs - a) (drop a xs)) ≡ written xs a vs
 unfolding written
 part-back xs a vs ys h e =
-    let whole : take (length xs - a) (drop a xs) ≡ drop a xs = take-all (length xs - a) (drop a xs) (simp length-drop (le-refl _)) in
     let none : drop (length xs - a) (drop a xs) ≡ [] = drop-of-length-le (drop a xs) {i = length xs - a} (simp length-drop (le-refl _)) in
     let fits : 0 + length vs ≤ length (drop a xs) = simp length-drop (omega arith) in
-    rw (none, append-nil, e, whole, sets-eq vs (drop a xs) 0 fits, sets-eq vs xs a h, zero-add, drop-drop, append-assoc) refl
+    rw (none, append-nil, e, part-to-end xs a, sets-eq vs (drop a xs) 0 fits, sets-eq vs xs a h, zero-add, drop-drop, append-assoc) refl
 
 -- ---- writing in several turns
 

@@ -12,7 +12,9 @@ use lib.ListN.{length, length-append, getD}
 use borrow.Author.Tests.{eqb-true, eqb-false, eq-eqb}
 use Rattle.telegram.specs.Telegram.{telegramOf, sizeOf, readTelegram}
 use Rattle.telegram.specs.declared.message.Message.{Message}
-use Rattle.telegram.proofs.SizeLaws.{length-telegram}
+use Rattle.laws.specs.Each.{Each}
+use Rattle.laws.proofs.Each.{_▹_, each-append}
+use Rattle.telegram.proofs.Kept.{length-telegram}
 use Rattle.channel.specs.State.{isIn}
 use Rattle.line_rules.specs.Notices.{Content, telegram, contact, contentFor}
 use Rattle.channel.specs.declared.state.Channel.{Channel}
@@ -22,10 +24,10 @@ use Rattle.channel.specs.declared.state.Notice.the-variants.{PressAnswer, Incom
 use Rattle.channel.specs.declared.state.Send.{Send}
 use Rattle.set_rules.specs.State.{newSet, noDesk}
 use Rattle.set_rules.specs.Entries.{readEntry, telegramIn}
-use Rattle.set_rules.specs.ByKind.{pick}
+use Rattle.laws.specs.Table.{pick}
 use Rattle.set_rules.specs.Refusals.{askedIn, refusalOf}
 use Rattle.set_rules.specs.Records.{Delivery, delivered, recordFor, recordSize, toEach, recordsOf, spaceOf}
-use Rattle.set_rules.specs.SetRules.{Effect, movedIn, onChannel, sendsOf, onTick, onHandover, onRequest, ways, accepted}
+use Rattle.set_rules.specs.SetRules.{Effect, movedIn, sentIn, onChannel, sendsOf, onTick, onHandover, onRequest, ways, accepted}
 use Rattle.set_rules.specs.Feeds.{Outcome, Item, refuse, emit, outcomeOf, stepOf, stepBy, run, after}
 use Rattle.set_rules.specs.Promises.{Refused, Counted, Renewed}
 use Rattle.set_rules.specs.declared.state.Desk.{Desk}
@@ -33,7 +35,7 @@ use Rattle.set_rules.specs.declared.state.LineSet.{LineSet}
 use Rattle.set_rules.specs.declared.state.Entry.{Entry}
 use Rattle.set_rules.specs.declared.state.Request.{Request}
 use Rattle.set_rules.specs.declared.state.Request.the-variants.{TellsTime, TellsState, AsksChannel, Foreign}
-use Rattle.set_rules.proofs.ByKind.{_▹_, pick-each}
+use Rattle.laws.proofs.Table.{pick-each}
 
 -- ---- refused answers
 
@@ -54,8 +56,7 @@ abbrev pub Even : Delivery → Type 0
 Even v = (d : ℕ) → recordSize (v .content d) ≡ recordSize (v .content 0)
 
 abbrev pub AllEven : List Delivery → Type 0
-AllEven [] = Unit {0}
-AllEven (v ∷ vs) = Even v × AllEven vs
+AllEven = Each Even
 
 pub record-length : (ds : List Desk) (d : ℕ) (x : Content) → length (recordFor ds d x) ≡ recordSize x
 record-length ds d (telegram m) = let l = length-telegram (getD ds d noDesk .code) m in omega arith
@@ -116,16 +117,10 @@ unfolding delivered
 even-sends ch [] = tt
 even-sends ch (s ∷ ss) = (even-notice ch (s .notice), even-sends ch ss)
 
-even-append : (vs ws : List Delivery) → AllEven vs → AllEven ws → AllEven (vs ++ ws)
-even-append [] ws e f = f
-even-append (v ∷ vs) ws e f = (e .0, even-append vs ws (e .1) f)
-
 pub even-all : (ds : List Desk) (n : ℕ) (v : Event) (cs : List Channel) → AllEven (sendsOf ds n v cs)
 unfolding sendsOf
 even-all ds n v [] = tt
-even-all ds n v (c ∷ cs) =
-    let ss = movedIn ds n v c .sends in
-    even-append (delivered (c .code) ss) (sendsOf ds n v cs) (even-sends (c .code) ss) (even-all ds n v cs)
+even-all ds n v (c ∷ cs) = each-append Even (sentIn ds n v c) (sendsOf ds n v cs) (even-sends (c .code) (movedIn ds n v c .sends)) (even-all ds n v cs)
 
 pub even-on : (s : LineSet) (ch d : ℕ) (v : Event) → AllEven (onChannel s ch d v .sent)
 unfolding onChannel

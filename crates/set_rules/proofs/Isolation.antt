@@ -1,15 +1,16 @@
 -- Demand 3, its first part: two feeds that differ only in numbers that B may not learn show B the same.
 -- Assumes nothing.
 use Prim.Native.Nat.{ℕ, zero, suc, _+_, _-_, _*_, _/_, _%_, _^_, _≤_, _<_}
-use mathlib.Core.List.{List, [], _∷_, _++_, map}
+use mathlib.Core.List.{List, [], _∷_, _++_, map, map-append}
 use mathlib.Core.Bool.{Bool, true, false, _&&_, _||_, not, cond}
 use mathlib.Core.Path.{_≡_, refl, sym, ap, _∙_}
 use native.Mathlib.Omega.{arith}
 use native.Mathlib.Nat.{pow-suc}
 use lib.Dec.{eqb, leb, ltb}
-use lib.ListN.{length, getD, take, drop, set}
+use lib.ListN.{length, getD, take, drop, set, length-map, List·getD-map}
 use lib.Seq.{getD-take}
 use borrow.Author.Tests.{ne-eqb}
+use Rattle.laws.proofs.Lists.{take-map, drop-map, map-set}
 use Rattle.fields.specs.declared.digits.Digits.{Digits}
 use Rattle.telegram.specs.declared.message.Number.{Number}
 use Rattle.telegram.specs.Telegram.{readTelegram}
@@ -27,52 +28,22 @@ use Rattle.channel.specs.declared.state.Notice.the-variants.{PressAnswer, Incom
 use Rattle.channel.specs.declared.state.Send.{Send}
 use Rattle.line_rules.proofs.Veil.{none-in, veil, hide, hide-twice, hideNotice, hideSend, hideSends, hideStep, present-hide, happens-hide, number-hidden}
 use Rattle.set_rules.specs.State.{newSet, noChannel, deskAt, channelsOf, placeOf, placeIn, channelAt, hasChannel, listenersOf, withChannels}
-use Rattle.set_rules.specs.ByKind.{pick}
+use Rattle.laws.specs.Table.{pick}
 use Rattle.set_rules.specs.Entries.{byte, measured, readEntry, sizeOk, asks, bad, mobileIn, telegramIn}
 use Rattle.set_rules.specs.Refusals.{Lookup, lookup, Test, askedIn, namedBy, mayAsk, firstOf, refusalOf, isCaller, table}
 use Rattle.set_rules.specs.Records.{Delivery, delivered, recordSize, recordsOf, spaceOf}
 use Rattle.set_rules.specs.SetRules.{Effect, effect, telegramTo, timeTaken, answerTaken, contextOf, onChannel, byHolder, movedBy, movedIn, nextsOf, sendsOf, onTick, onHandover, onRequest, numberIn, ways, accepted}
 use Rattle.set_rules.specs.Feeds.{Outcome, Item, refuse, emit, outcomeOf, stepOf, stepBy, ofDesk, received, Seen, seenOf, views}
 use Rattle.set_rules.specs.Promises.{AlikeBut, Renumbered, OtherHolds, MayDiffer, same, talks, Related, ended, more, Isolated}
-use Rattle.set_rules.specs.Invariant.{Each}
+use Rattle.laws.specs.Each.{Each}
 use Rattle.set_rules.specs.declared.state.Desk.{Desk}
 use Rattle.set_rules.specs.declared.state.LineSet.{LineSet}
 use Rattle.set_rules.specs.declared.state.Entry.{Entry}
 use Rattle.set_rules.specs.declared.state.Request.{Request}
 use Rattle.set_rules.specs.declared.state.Request.the-variants.{TellsTime, TellsState, AsksChannel, Foreign}
-use Rattle.set_rules.proofs.ByKind.{_▹_, pick-matched}
+use Rattle.laws.proofs.Each.{_▹_}
+use Rattle.laws.proofs.Table.{pick-matched}
 use Rattle.set_rules.proofs.Received.{Like, AllLike, space-like, received-like, like-self, like-append}
-
--- ---- lists of channels
-
-module _ (f : Channel → Channel) where
-  take-map : (n : ℕ) (cs : List Channel) → take n (map f cs) ≡ map f (take n cs)
-  take-map zero cs = refl
-  take-map (suc n) [] = refl
-  take-map (suc n) (c ∷ cs) = ap (λ (l : List Channel). f c ∷ l) (take-map n cs)
-
-  drop-map : (n : ℕ) (cs : List Channel) → drop n (map f cs) ≡ map f (drop n cs)
-  drop-map zero cs = refl
-  drop-map (suc n) [] = refl
-  drop-map (suc n) (c ∷ cs) = drop-map n cs
-
-  length-map : (cs : List Channel) → length (map f cs) ≡ length cs
-  length-map [] = refl
-  length-map (c ∷ cs) = ap suc (length-map cs)
-
-  map-set : (cs : List Channel) (i : ℕ) (c : Channel) → map f (set cs i c) ≡ set (map f cs) i (f c)
-  map-set [] i c = refl
-  map-set (d ∷ cs) zero c = refl
-  map-set (d ∷ cs) (suc i) c = ap (λ (l : List Channel). f d ∷ l) (map-set cs i c)
-
-  map-append : (cs ds : List Channel) → map f (cs ++ ds) ≡ map f cs ++ map f ds
-  map-append [] ds = refl
-  map-append (c ∷ cs) ds = ap (λ (l : List Channel). f c ∷ l) (map-append cs ds)
-
-  getD-map : (cs : List Channel) (i : ℕ) (z : Channel) → f z ≡ z → getD (map f cs) i z ≡ f (getD cs i z)
-  getD-map [] i z e = sym e
-  getD-map (c ∷ cs) zero z e = refl
-  getD-map (c ∷ cs) (suc i) z e = getD-map cs i z e
 
 -- a desk is not in the set of another
 power-other : (B d : ℕ) → (d ≡ B → ⊥) → isIn B (2 ^ d) ≡ false
@@ -113,10 +84,10 @@ module _ (B : ℕ) where
   place-hide n k cs = ap (placeOf k) (take-map (hide B) n cs) ∙ place-map k (take n cs)
 
   count-hide : (n : ℕ) (cs : List Channel) → length (take n (hides cs)) ≡ length (take n cs)
-  count-hide n cs = ap length (take-map (hide B) n cs) ∙ length-map (hide B) (take n cs)
+  count-hide n cs = ap length (take-map (hide B) n cs) ∙ length-map (take n cs) (hide B)
 
   at-hide : (n i : ℕ) (cs : List Channel) → getD (take n (hides cs)) i noChannel ≡ hide B (getD (take n cs) i noChannel)
-  at-hide n i cs = ap (λ (l : List Channel). getD l i noChannel) (take-map (hide B) n cs) ∙ getD-map (hide B) (take n cs) i noChannel refl
+  at-hide n i cs = ap (λ (l : List Channel). getD l i noChannel) (take-map (hide B) n cs) ∙ List·getD-map (hide B) (take n cs) i noChannel
 
   channelAt-hide : (s : LineSet) (ch : ℕ) → channelAt (hideSet s) ch ≡ hide B (channelAt s ch)
   channelAt-hide s ch =

@@ -3,9 +3,6 @@ pub mod Answers
 pub mod Received
 pub mod Isolation
 pub mod Witness
-pub mod Elements
-pub mod Each
-pub mod ByKind
 pub mod Rows
 pub mod Ticks
 pub mod AllMarked

@@ -9,7 +9,7 @@ use Rattle.telegram.specs.Promises.{spelled}
 use Rattle.channel.specs.State.{isIn}
 use Rattle.line_rules.specs.Rules.{capture, handover, happens}
 use Rattle.set_rules.specs.State.{placeOf, runningFrom}
-use Rattle.set_rules.specs.ByKind.{pick}
+use Rattle.laws.specs.Table.{pick}
 use Rattle.set_rules.specs.Entries.{readEntry}
 use Rattle.set_rules.specs.Plan.{desksOk, desksIn, hasNumber, distinct, channelsOk, channelsIn, planOk, setOf}
 use Rattle.set_rules.specs.Refusals.{firstOf, refusalOf}

@@ -1,14 +1,16 @@
 -- What a channel in range sends is in range, and it stays in range.
 -- Assumes nothing.
 use Prim.Native.Nat.{ℕ, zero, suc, _-_, _^_, _≤_, _<_}
-use mathlib.Core.List.{List, [], _∷_, _++_}
-use mathlib.Core.Bool.{Bool, true, false, _&&_, _||_, cond}
+use mathlib.Core.List.{List, [], _++_}
+use mathlib.Core.Bool.{Bool, true, false, cond}
 use mathlib.Core.Path.{_≡_, refl, sym, ap, _∙_}
 use native.Mathlib.Omega.{arith}
 use lib.Dec.{eqb, leb, ltb, lit≤, lit<}
 use borrow.Author.Tests.{le-leb, lt-ltb, eq-eqb, leb-true}
-use Rattle.fields.specs.Fields.{allIn, between}
-use Rattle.fields.proofs.DigitLaws.{both}
+use Rattle.laws.specs.Each.{Each}
+use Rattle.laws.proofs.Each.{each-append}
+use Rattle.laws.proofs.Tests.{both, by-test, either}
+use Rattle.fields.specs.Fields.{allIn}
 use Rattle.telegram.specs.Telegram.{num, inRange, sendable}
 use Rattle.telegram.specs.declared.message.Number.{Number}
 use Rattle.telegram.specs.declared.message.Message.{Message}
@@ -42,11 +44,10 @@ NoticeOk (CaptureReply r) = r ≤ 1
 NoticeOk (CaptureState h n s) = NumberOk n × (s ≤ 1)
 
 below : (b : ℕ) → BaseOk b → ltb b (10 ^ 3) ≡ true
-below b h = go (leb b 29) refl h
-  where
-    go : (t : Bool) → leb b 29 ≡ t → (t || between 997 999 b) ≡ true → ltb b (10 ^ 3) ≡ true
-    go true k h = lt-ltb b (10 ^ 3) (omega (arith, leb-true b 29 k))
-    go false k h = lt-ltb b (10 ^ 3) (omega (arith, leb-true b 999 (both (leb 997 b) (leb b 999) h .1)))
+below b h =
+    by-test (leb b 29)
+    (λ k. lt-ltb b (10 ^ 3) (omega (arith, leb-true b 29 k)))
+    (λ k. lt-ltb b (10 ^ 3) (omega (arith, leb-true b 999 (both (leb 997 b) (leb b 999) (rw k at h) .1))))
 
 -- a planned channel's code stands in its field
 channel-in : (ch : ℕ) → ch ≤ 99 → (ltb ch (10 ^ 3) ≡ true) × (leb ch 99 ≡ true)
@@ -59,6 +60,9 @@ digit-in v top h k = (lt-ltb v (10 ^ 1) (omega arith), le-leb v top h)
 abbrev pub ContentOk : Content → Type 0
 ContentOk (telegram m) = inRange m ≡ true
 ContentOk (contact k ch on) = Unit {0}
+
+abbrev StateOk : ℕ → ℕ → Number → Type 0
+StateOk ch s n = ContentOk (telegram (State (record { channel = ch; number = n; state = s })))
 
 pub in-range : (d ch : ℕ) (n : Notice) → ch ≤ 99 → NoticeOk n → ContentOk (contentFor d ch n)
 unfolding allIn
@@ -88,39 +92,23 @@ in-range d ch (CaptureReply r) h k =
     let c = channel-in ch h in
     let j = digit-in r 1 k (omega arith) in
     simp (c .0, c .1, j .0, j .1)
-in-range d ch (CaptureState h′ n s) h k = go (eqb h′ d)
-  where
-    go : (t : Bool) → ContentOk (telegram (State (record { channel = ch; number = cond t n (num 0); state = s })))
-    go true =
-        let c = channel-in ch h in
-        let j = digit-in s 1 (k .1) (omega arith) in
-        simp (c .0, c .1, lt-ltb (n .digits) (10 ^ 8) (k .0), j .0, j .1)
-    go false =
-        let c = channel-in ch h in
-        let j = digit-in s 1 (k .1) (omega arith) in
-        simp (c .0, c .1, j .0, j .1)
+in-range d ch (CaptureState h′ n s) h k =
+    let c = channel-in ch h in
+    let j = digit-in s 1 (k .1) (omega arith) in
+    let ok : (x : Number) → NumberOk x → StateOk ch s x = λ x b. simp (c .0, c .1, lt-ltb (x .digits) (10 ^ 8) b, j .0, j .1) in
+    either (StateOk ch s) (eqb h′ d) n (num 0) (ok n (k .0)) (ok (num 0) (omega arith))
 
 -- ---- what a rule sends, and the channel after it
 
+abbrev pub SendOk : Send → Type 0
+SendOk s = NoticeOk (s .notice)
+
 abbrev pub SendsOk : List Send → Type 0
-SendsOk [] = Unit {0}
-SendsOk (s ∷ ss) = NoticeOk (s .notice) × SendsOk ss
-
-append-ok : (ss ts : List Send) → SendsOk ss → SendsOk ts → SendsOk (ss ++ ts)
-append-ok [] ts a b = b
-append-ok (s ∷ ss) ts a b = (a .0, append-ok ss ts (a .1) b)
-
-sentIf-ok : (t : Bool) (ss : List Send) → SendsOk ss → SendsOk (sentIf t ss)
-sentIf-ok true ss a = a
-sentIf-ok false ss a = tt
+SendsOk = Each SendOk
 
 pub record StepOk (st : Step) : Type 0 where
   pub next-ok : ChannelOk (st .next)
   pub sends-ok : SendsOk (st .sends)
-
-either : (t : Bool) (a b : Step) → StepOk a → StepOk b → StepOk (cond t a b)
-either true a b p q = p
-either false a b p q = q
 
 -- an event in range
 abbrev pub EventOk : Event → Type 0
@@ -179,14 +167,14 @@ module _ (x : Context) (own : NumberOk (x .own)) (c : Channel) (ok : ChannelOk c
   cut-ok = record {
     next-ok = record { code-ok = ok .code-ok; call-ok = tt; arrival-ok = ok .arrival-ok };
     sends-ok =
-        append-ok (sentIf (c .pressed) (pressOffSends x c)) (endOf 1 (c .call) ++ freedSends x c) (sentIf-ok (c .pressed) (pressOffSends x c) press-off-ok)
-        (append-ok (endOf 1 (c .call)) (freedSends x c) (end-ok 1 (omega arith) (c .call) (ok .call-ok)) freed-ok);
+        each-append SendOk (sentIf (c .pressed) (pressOffSends x c)) (endOf 1 (c .call) ++ freedSends x c) (either SendsOk (c .pressed) _ _ press-off-ok tt)
+        (each-append SendOk (endOf 1 (c .call)) (freedSends x c) (end-ok 1 (omega arith) (c .call) (ok .call-ok)) freed-ok);
   }
 
   release-ok : (d : ℕ) → StepOk (release x d c)
   unfolding release
   release-ok d =
-      either (heldBy d (c .holder)) _ _
+      either StepOk (heldBy d (c .holder)) _ _
       (record { next-ok = cut-ok .next-ok; sends-ok = (omega arith, cut-ok .sends-ok) })
       (record { next-ok = ok; sends-ok = (omega arith, tt) })
 
@@ -210,7 +198,7 @@ module _ (x : Context) (own : NumberOk (x .own)) (c : Channel) (ok : ChannelOk c
   unfolding pressOn
   pressOn-ok = record {
     next-ok = record { code-ok = ok .code-ok; call-ok = opened-ok (c .call) (pressCall x c) (ok .call-ok) own-talk; arrival-ok = ok .arrival-ok };
-    sends-ok = (tt, append-ok (openingSends (c .call) (pressCall x c)) _ (opening-ok (c .call) (pressCall x c) own-talk) ((kind-ok (c .call) (ok .call-ok), omega arith), tt));
+    sends-ok = (tt, each-append SendOk (openingSends (c .call) (pressCall x c)) _ (opening-ok (c .call) (pressCall x c) own-talk) ((kind-ok (c .call) (ok .call-ok), omega arith), tt));
   }
 
   pressOff-ok : StepOk (pressOff x c)
@@ -230,7 +218,7 @@ module _ (x : Context) (own : NumberOk (x .own)) (c : Channel) (ok : ChannelOk c
       let o : CallOk new = mobile-talk Closed tt b n h g in
       record {
         next-ok = record { code-ok = ok .code-ok; call-ok = opened-ok (c .call) new (ok .call-ok) o; arrival-ok = t };
-        sends-ok = (tt, ((t, omega arith), append-ok (openingSends (c .call) new) _ (opening-ok (c .call) new o) ((t, omega arith), tt)));
+        sends-ok = (tt, ((t, omega arith), each-append SendOk (openingSends (c .call) new) _ (opening-ok (c .call) new o) ((t, omega arith), tt)));
       }
 
   mobileOff-ok : StepOk (mobileOff c)
@@ -240,31 +228,31 @@ module _ (x : Context) (own : NumberOk (x .own)) (c : Channel) (ok : ChannelOk c
   tickQuiet-ok : StepOk (tickQuiet c)
   unfolding tickQuiet
   tickQuiet-ok =
-      either (leb (c .quiet) 1) _ _
+      either StepOk (leb (c .quiet) 1) _ _
       (record { next-ok = record { code-ok = ok .code-ok; call-ok = tt; arrival-ok = ok .arrival-ok }; sends-ok = end-ok 3 (omega arith) (c .call) (ok .call-ok) })
       (record { next-ok = kept _ refl refl refl; sends-ok = tt })
 
   tickRelease-ok : StepOk (tickRelease x c)
   unfolding tickRelease
   tickRelease-ok =
-      either (leb (c .release) 1) _ _ (record { next-ok = kept _ refl refl refl; sends-ok = freed-ok }) (record { next-ok = kept _ refl refl refl; sends-ok = tt })
+      either StepOk (leb (c .release) 1) _ _ (record { next-ok = kept _ refl refl refl; sends-ok = freed-ok }) (record { next-ok = kept _ refl refl refl; sends-ok = tt })
 
   tickIdle-ok : StepOk (tickIdle x c)
   unfolding tickIdle
-  tickIdle-ok = either (ltb 0 (c .quiet)) _ _ tickQuiet-ok (either (isHeld (c .holder)) _ _ tickRelease-ok plain-ok)
+  tickIdle-ok = either StepOk (ltb 0 (c .quiet)) _ _ tickQuiet-ok (either StepOk (isHeld (c .holder)) _ _ tickRelease-ok plain-ok)
 
   tick-ok : StepOk (tick x c)
   unfolding tick
-  tick-ok = either (c .pressed) _ _ plain-ok (either (isPresent (c .arrival)) _ _ plain-ok tickIdle-ok)
+  tick-ok = either StepOk (c .pressed) _ _ plain-ok (either StepOk (isPresent (c .arrival)) _ _ plain-ok tickIdle-ok)
 
   handover-ok : StepOk (handover x c)
   unfolding handover
   handover-ok = record {
     next-ok = record { code-ok = ok .code-ok; call-ok = tt; arrival-ok = tt };
     sends-ok =
-        append-ok (sentIf (c .pressed) (pressOffSends x c)) _ (sentIf-ok (c .pressed) (pressOffSends x c) press-off-ok)
-        (append-ok (mobileOffSends (c .arrival)) _ (off-ok (c .arrival) (ok .arrival-ok))
-        (append-ok (endOf 2 (c .call)) _ (end-ok 2 (omega arith) (c .call) (ok .call-ok)) (sentIf-ok (isHeld (c .holder)) (freedSends x c) freed-ok)));
+        each-append SendOk (sentIf (c .pressed) (pressOffSends x c)) _ (either SendsOk (c .pressed) _ _ press-off-ok tt)
+        (each-append SendOk (mobileOffSends (c .arrival)) _ (off-ok (c .arrival) (ok .arrival-ok))
+        (each-append SendOk (endOf 2 (c .call)) _ (end-ok 2 (omega arith) (c .call) (ok .call-ok)) (either SendsOk (isHeld (c .holder)) _ _ freed-ok tt)));
   }
 
   pub happens-ok : (v : Event) → EventOk v → StepOk (happens v x c)

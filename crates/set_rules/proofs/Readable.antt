@@ -1,7 +1,7 @@
 -- Every telegram that a feed brings about reads as meant: numbers and codes stay in range.
 -- Assumes nothing.
 use Prim.Native.Nat.{ℕ, zero, suc, _+_, _-_, _*_, _^_, _≤_, _<_}
-use mathlib.Core.List.{List, [], _∷_, _++_}
+use mathlib.Core.List.{List, [], _∷_}
 use mathlib.Core.Bool.{Bool, true, false, _&&_, _||_, not, cond, false≢true}
 use mathlib.Core.Path.{_≡_, refl, sym, ap, _∙_}
 use native.Mathlib.Omega.{arith}
@@ -9,16 +9,19 @@ use native.Mathlib.Nat.{pow-le-pow-right}
 use lib.Dec.{eqb, leb, ltb}
 use lib.ListN.{length, length-take, take, drop, getD, set, replicate}
 use borrow.Author.Tests.{leb-true, le-leb, eqb-true, eq-eqb}
+use Rattle.laws.specs.Each.{Each}
+use Rattle.laws.proofs.Each.{_▹_, each-at, each-set, each-take, each-drop, each-append, each-same}
+use Rattle.laws.proofs.Tests.{both}
 use Rattle.fields.specs.Digits.{allDigits, valueOf, digitsIn}
 use Rattle.fields.specs.Fields.{allIn, between}
 use Rattle.fields.specs.declared.digits.Digits.{Digits}
 use Rattle.fields.specs.declared.digits.Digits.the-variants.{Value, Malformed}
-use Rattle.fields.proofs.DigitLaws.{both, value-below}
 use Rattle.telegram.specs.Telegram.{num, inRange, readTelegram, telegramOf}
 use Rattle.telegram.specs.declared.message.Message.{Message}
 use Rattle.telegram.specs.declared.message.Message.the-variants.{TimeRequest, OperationRequest}
 use Rattle.telegram.specs.declared.message.Reading.the-variants.{Telegram}
-use Rattle.telegram.proofs.RoundTrip.{reads-back}
+use Rattle.fields.proofs.Kept.{value-below}
+use Rattle.telegram.proofs.Kept.{reads-back}
 use Rattle.channel.specs.State.{only, firstDesks, holderPlace}
 use Rattle.line_rules.specs.Rules.{Step, happens}
 use Rattle.line_rules.specs.Notices.{Content, telegram, contact, contentFor}
@@ -33,17 +36,16 @@ use Rattle.set_rules.specs.Refusals.{askedIn, refusalOf}
 use Rattle.set_rules.specs.Records.{Delivery, delivered}
 use Rattle.set_rules.specs.SetRules.{Effect, effect, telegramTo, contextOf, movedIn, nextsOf, sendsOf, onChannel, byHolder, onTick, onHandover, onPlan, onRequest, ways, timeTaken, answerTaken, numberIn, accepted}
 use Rattle.set_rules.specs.Feeds.{Item, stepOf, stepBy, after}
-use Rattle.set_rules.specs.Invariant.{NumberOk, ChannelOk, DeskOk, Each, SetOk}
-use Rattle.set_rules.specs.Promises.{AllRead, Readable, InRange}
+use Rattle.set_rules.specs.Invariant.{NumberOk, ChannelOk, DeskOk, SetOk}
+use Rattle.set_rules.specs.Promises.{Reads, AllRead, Readable, InRange}
 use Rattle.set_rules.specs.declared.state.Link.{Link}
 use Rattle.set_rules.specs.declared.state.Desk.{Desk}
 use Rattle.set_rules.specs.declared.state.LineSet.{LineSet}
 use Rattle.set_rules.specs.declared.state.Entry.{Entry}
 use Rattle.set_rules.specs.declared.state.Request.{Request}
 use Rattle.set_rules.specs.declared.state.Request.the-variants.{TellsTime, TellsState, AsksChannel, Foreign}
-use Rattle.set_rules.proofs.ByKind.{_▹_, pick-each}
+use Rattle.laws.proofs.Table.{pick-each}
 use Rattle.set_rules.proofs.Answers.{refused, accepted-after}
-use Rattle.set_rules.proofs.Each.{each-at, each-set, each-take, each-drop, each-append, each-same}
 use Rattle.set_rules.proofs.Rows.{no-row}
 use Rattle.set_rules.proofs.Ranges.{ContentOk, NoticeOk, in-range, SendsOk, StepOk, EventOk, happens-ok}
 
@@ -77,10 +79,6 @@ unfolding delivered
 sent-reads ds o ch h [] k = tt
 sent-reads ds o ch h (s ∷ ss) k =
     (λ d m e. content-reads (getD ds d noDesk .code) (contentFor d ch (s .notice)) (desk-ok ds o d .code-ok) (in-range d ch (s .notice) h (k .0)) m e, sent-reads ds o ch h ss (k .1))
-
-read-append : (ds : List Desk) (vs ws : List Delivery) → AllRead ds vs → AllRead ds ws → AllRead ds (vs ++ ws)
-read-append ds [] ws a b = b
-read-append ds (v ∷ vs) ws a b = (a .0, read-append ds vs ws (a .1) b)
 
 -- a telegram that is in range whatever it says
 plain-reads : (ds : List Desk) → Each DeskOk ds → (to : ℕ) (m : Message) → inRange m ≡ true → AllRead ds (telegramTo to m)
@@ -116,7 +114,7 @@ module _ (s : LineSet) (ok : SetOk s) where
       let k = happens-ok (contextOf (s .desks) (s .size .desks) c (holderPlace (c .holder))) (own-ok (holderPlace (c .holder))) c (o .0) v h in
       let r = all-ok v h cs (o .1) in
       let ss = movedIn (s .desks) (s .size .desks) v c .sends in
-      ((k .next-ok, r .0), read-append (s .desks) (delivered (c .code) ss) (sendsOf (s .desks) (s .size .desks) v cs) (sent-reads (s .desks) (ok .desks-ok) (c .code) (o .0 .code-ok) ss (k .sends-ok)) (r .1))
+      ((k .next-ok, r .0), each-append (Reads (s .desks)) (delivered (c .code) ss) (sendsOf (s .desks) (s .size .desks) v cs) (sent-reads (s .desks) (ok .desks-ok) (c .code) (o .0 .code-ok) ss (k .sends-ok)) (r .1))
 
   planned-ok : Each ChannelOk (channelsOf s)
   planned-ok = each-take ChannelOk (s .size .channels) (s .channels) (ok .channels-ok)

@@ -7,11 +7,12 @@ use mathlib.Core.Path.{_≡_, refl, sym, _∙_}
 use native.Mathlib.Omega.{arith}
 use lib.Dec.{eqb}
 use borrow.Author.Tests.{eq-eqb}
+use Rattle.laws.specs.Each.{Each}
 use Rattle.telegram.specs.Telegram.{readTelegram}
 use Rattle.telegram.specs.declared.message.Reading.{Reading}
 use Rattle.set_rules.specs.Entries.{telegramIn}
 use Rattle.set_rules.specs.Refusals.{Lookup, lookup, Test, askedIn, namedBy, row4, row6, row12, row14, row15, firstOf, refusalOf, table}
-use Rattle.set_rules.specs.Invariant.{Each}
+use Rattle.laws.specs.Each.{Each}
 use Rattle.set_rules.specs.declared.state.LineSet.{LineSet}
 use Rattle.set_rules.specs.declared.state.Entry.{Entry}
 

@@ -8,9 +8,10 @@ use native.Mathlib.Omega.{arith}
 use lib.Dec.{eqb, leb, ltb}
 use lib.ListN.{length, replicate, take, drop, set}
 use borrow.Author.Tests.{eqb-true, eq-eqb, ltb-true}
+use Rattle.laws.proofs.Tests.{by-test}
 use Rattle.channel.specs.State.{isIn, holderPlace}
 use Rattle.line_rules.specs.Rules.{Context, Step, to, happens, pressOff, tick, tickIdle, tickQuiet, tickRelease, endOf, freedSends}
-use Rattle.line_rules.proofs.Traps.{quietly}
+use Rattle.line_rules.specs.Promises.{quietly}
 use Rattle.channel.specs.declared.state.Holder.the-variants.{Held}
 use Rattle.channel.specs.declared.state.Call.{Call}
 use Rattle.channel.specs.declared.state.Arrival.the-variants.{Absent}
@@ -19,7 +20,7 @@ use Rattle.channel.specs.declared.state.Event.the-variants.{PressOn, PressOff, 
 use Rattle.channel.specs.declared.state.Send.{Send}
 use Rattle.set_rules.specs.State.{channelsOf, placeOf, placeIn, hasChannel, channelAt, listenersOf, withChannels}
 use Rattle.set_rules.specs.Entries.{readEntry}
-use Rattle.set_rules.specs.ByKind.{pick}
+use Rattle.laws.specs.Table.{pick}
 use Rattle.set_rules.specs.Refusals.{firstOf, refusalOf}
 use Rattle.set_rules.specs.Records.{Delivery, delivered, recordsOf, spaceOf}
 use Rattle.set_rules.specs.SetRules.{Effect, contextOf, nextsOf, sendsOf, onChannel, byHolder, onTick, accepted}
@@ -44,11 +45,10 @@ record Done (s : LineSet) (o : Outcome) : Type 0 where
 
 tick-done : (s : LineSet) (room : ℕ) → s .planned ≡ true → stepOf s (entryOf 6 []) room .refusal ≡ 0 → Done s (stepOf s (entryOf 6 []) room)
 unfolding outcomeOf stepOf pick accepted readEntry onTick
-tick-done s room p z = go (leb (spaceOf (onTick s .sent)) room) refl
-  where
-    go : (u : Bool) → leb (spaceOf (onTick s .sent)) room ≡ u → Done s (stepOf s (entryOf 6 []) room)
-    go true l = record { bytes-are = rw (tick-accepted s p, l); after-is = rw (tick-accepted s p, l) }
-    go false l = absurd (let f : _≡_ {A = ℕ} 16 0 = rw (tick-accepted s p, l) at z in omega arith)
+tick-done s room p z =
+    by-test (leb (spaceOf (onTick s .sent)) room)
+    (λ l. record { bytes-are = rw (tick-accepted s p, l); after-is = rw (tick-accepted s p, l) })
+    (λ l. absurd (let f : _≡_ {A = ℕ} 16 0 = rw (tick-accepted s p, l) at z in omega arith))
 
 -- what each of so many ticks sends
 sentBy : ℕ → LineSet → List (List Delivery)

@@ -8,8 +8,11 @@ use native.Mathlib.Omega.{arith}
 use lib.Dec.{eqb, leb, ltb}
 use lib.ListN.{length, drop}
 use borrow.Author.Tests.{leb-true, leb-false, lt-ltb, eqb-true, eqb-false, eq-eqb}
-use Rattle.fields.proofs.DigitLaws.{both}
+use Rattle.laws.proofs.Tests.{both}
 use Rattle.telegram.specs.Telegram.{readTelegram}
+use Rattle.laws.specs.Each.{Each}
+use Rattle.laws.proofs.Each.{_▹_, each-at, each-set, each-take, each-drop, each-append, each-same}
+use Rattle.laws.proofs.Tests.{both}
 use Rattle.telegram.specs.declared.message.Number.{Number}
 use Rattle.channel.specs.State.{isHeld, holderPlace, heldBy, isPresent}
 use Rattle.line_rules.specs.Rules.{Context, Step, step, happens, capture, captureAt, cut, release, pressOn, pressOff, mobileOn, mobileOff, tick, tickIdle, tickQuiet, tickRelease, handover, isOpen, openedBy, pressCall, mobileCall, mobileRecipients}
@@ -26,15 +29,14 @@ use Rattle.set_rules.specs.Plan.{channelsIn, channelCount, channelsPart,
 use Rattle.set_rules.specs.Refusals.{askedIn, refusalOf}
 use Rattle.set_rules.specs.SetRules.{Effect, contextOf, nextsOf, onChannel, onTick, onHandover, onPlan, onRequest, numberIn, ways, accepted}
 use Rattle.set_rules.specs.Feeds.{Item, stepBy, after}
-use Rattle.set_rules.specs.Invariant.{Timed, Each}
+use Rattle.set_rules.specs.Invariant.{Timed}
 use Rattle.set_rules.specs.Promises.{TimersRun}
 use Rattle.set_rules.specs.declared.state.LineSet.{LineSet}
 use Rattle.set_rules.specs.declared.state.Entry.{Entry}
 use Rattle.set_rules.specs.declared.state.Request.{Request}
 use Rattle.set_rules.specs.declared.state.Request.the-variants.{TellsTime, TellsState, AsksChannel, Foreign}
-use Rattle.set_rules.proofs.ByKind.{_▹_, pick-each}
+use Rattle.laws.proofs.Table.{pick-each}
 use Rattle.set_rules.proofs.Answers.{refused, accepted-after}
-use Rattle.set_rules.proofs.Each.{each-at, each-set, each-take, each-drop, each-append, each-same}
 use Rattle.set_rules.proofs.Rows.{no-row}
 
 either : (t : Bool) (a b : Step) → (t ≡ true → Timed (a .next)) → (t ≡ false → Timed (b .next)) → Timed (cond t a b .next)

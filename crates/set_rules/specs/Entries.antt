@@ -7,7 +7,7 @@ use lib.ListN.{length, take, drop, getD}
 use Rattle.fields.specs.Digits.{digitsIn}
 use Rattle.fields.specs.declared.digits.Digits.{Digits}
 use Rattle.fields.specs.declared.digits.Digits.the-variants.{Malformed}
-use Rattle.set_rules.specs.ByKind.{pick}
+use Rattle.laws.specs.Table.{pick}
 use Rattle.set_rules.specs.declared.state.Entry.{Entry}
 
 -- the byte at a place

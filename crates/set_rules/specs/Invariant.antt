@@ -1,9 +1,9 @@
 -- What holds in every state that a feed from a new set brings about.
 use Prim.Native.Nat.{ℕ, _^_, _≤_, _<_}
-use mathlib.Core.List.{List, [], _∷_}
 use mathlib.Core.Bool.{true, _||_, _&&_, not}
 use mathlib.Core.Path.{_≡_}
 use lib.Dec.{leb, ltb}
+use Rattle.laws.specs.Each.{Each}
 use Rattle.fields.specs.Fields.{between}
 use Rattle.telegram.specs.declared.message.Number.{Number}
 use Rattle.channel.specs.State.{isHeld, isPresent}
@@ -50,11 +50,6 @@ pub record ChannelOk (c : Channel) : Type 0 where
 pub record DeskOk (k : Desk) : Type 0 where
   pub code-ok : k .code ≤ 1023
   pub number-ok : NumberOk (k .number)
-
--- all of a list
-abbrev pub Each : {A : Type 0} → (A → Type 0) → List A → Type 0
-Each P [] = Unit {0}
-Each P (x ∷ xs) = P x × Each P xs
 
 pub record SetOk (s : LineSet) : Type 0 where
   pub desks-ok : Each DeskOk (s .desks)

@@ -5,6 +5,7 @@ use mathlib.Core.Bool.{true, false}
 use mathlib.Core.Path.{_≡_}
 use lib.ListN.{length, take, drop, replicate, getD}
 use Rattle.fields.specs.Digits.{digitsOf}
+use Rattle.laws.specs.Each.{Each}
 use Rattle.telegram.specs.Telegram.{readTelegram, telegramOf}
 use Rattle.telegram.specs.Promises.{dv, Marked as ReaderMarked}
 use Rattle.telegram.specs.declared.message.Message.{Message}
@@ -20,7 +21,7 @@ use Rattle.set_rules.specs.Entries.{byte, mobileIn, readEntry}
 use Rattle.set_rules.specs.Refusals.{isCaller}
 use Rattle.set_rules.specs.Records.{measuredBytes, Delivery, delivered, recordsOf}
 use Rattle.set_rules.specs.SetRules.{contextOf, accepted}
-use Rattle.set_rules.specs.Invariant.{SetOk, Timed, Each}
+use Rattle.set_rules.specs.Invariant.{SetOk, Timed}
 use Rattle.set_rules.specs.Feeds.{Outcome, Item, stepOf, stepBy, run, after, Seen, views}
 use Rattle.set_rules.specs.declared.state.Desk.{Desk}
 use Rattle.set_rules.specs.declared.state.LineSet.{LineSet}
@@ -210,12 +211,13 @@ Marked = ReaderMarked × (Hold cases × Ticked)
 
 -- ---- 5. What is sent reads as meant (`Readable.readable`)
 
--- every telegram of some deliveries reads, under its desk's code, as the message that the rule names
+-- every telegram of a delivery reads, under its desk's code, as the message that the rule names
+abbrev pub Reads : List Desk → Delivery → Type 0
+Reads ds v =
+    (d : ℕ) (m : Message) → v .content d ≡ telegram m → readTelegram (telegramOf (getD ds d noDesk .code) m) ≡ Telegram (getD ds d noDesk .code) m
+
 abbrev pub AllRead : List Desk → List Delivery → Type 0
-AllRead ds [] = Unit {0}
-AllRead ds (v ∷ vs) =
-    ((d : ℕ) (m : Message) → v .content d ≡ telegram m → readTelegram (telegramOf (getD ds d noDesk .code) m) ≡ Telegram (getD ds d noDesk .code) m)
-    × AllRead ds vs
+AllRead ds = Each (Reads ds)
 
 -- In every state that a feed from a new set brings about, every telegram that an accepted entry sends reads, under its desk's
 -- code, as the message that the rule names.

@@ -18,7 +18,7 @@ use Rattle.channel.specs.declared.state.Event.{Event}
 use Rattle.channel.specs.declared.state.Event.the-variants.{Capture, Release, Cut, PressOn, PressOff, MobileOn, MobileOff, Tick, Handover}
 use Rattle.set_rules.specs.State.{newSet, noDesk, channelsOf, placeIn, channelAt, listenersOf, withChannels, timeTold, answered, withLink}
 use Rattle.set_rules.specs.Entries.{telegramIn, planIn}
-use Rattle.set_rules.specs.ByKind.{pick}
+use Rattle.laws.specs.Table.{pick}
 use Rattle.set_rules.specs.Plan.{setOf}
 use Rattle.set_rules.specs.Refusals.{askedIn}
 use Rattle.set_rules.specs.Records.{Delivery, delivered}

@@ -3,7 +3,7 @@ use channel::Channel;
 use fields::Digits;
 use telegram::Number;
 ghost use mathlib.Core.Path.{_≡_};
-ghost use Rattle.set_rules.specs.State.{newLink, timeTold, answered, newSet};
+ghost use Rattle.set_rules.specs.State.{newLink, timeTold, answered, noDesk, newSet};
 
 // A desk's command link, by its phase: 1 waits for the time, 2 for the operation answer, 3 is running.
 pub struct Link {
@@ -38,6 +38,20 @@ pub struct Desk {
     pub link: Link,
 }
 
+impl Desk {
+    // What fills the arrays past the plan's desks.
+    pub fn none() -> Desk
+        ensures { λ r. ⌜ r ≡ noDesk ⌝ }
+    {
+        let link = Link::new();
+        Desk {
+            code: 0,
+            number: Number::NONE,
+            link,
+        }
+    }
+}
+
 // How many desks and channels the plan has.
 pub struct Size {
     pub desks: u8,
@@ -58,11 +72,7 @@ impl LineSet {
         ensures { λ r. ⌜ r ≡ newSet ⌝ }
     {
         let channel = Channel::new(0, 0);
-        let desk = Desk {
-            code: 0,
-            number: Number::NONE,
-            link: Link { phase: 1 },
-        };
+        let desk = Desk::none();
         LineSet {
             channels: [channel; 32],
             desks: [desk; 4],

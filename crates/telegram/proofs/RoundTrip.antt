@@ -2,25 +2,27 @@
 -- Assumes nothing.
 use Prim.Native.Nat.{ℕ, zero, suc, _+_, _^_, _≤_, _<_}
 use mathlib.Core.List.{List, [], _∷_, _++_, append-assoc, append-nil}
-use mathlib.Core.Bool.{Bool, true, false, _&&_, cond, false≢true}
+use mathlib.Core.Bool.{true, false≢true}
 use mathlib.Core.Path.{_≡_, refl, sym, ap, _∙_}
 use native.Mathlib.Omega.{arith}
 use lib.ListN.{length, length-append, length-drop, getD, take, drop, take-append-drop}
 use lib.Seq.{take-at, drop-at, drop-drop, length-take-le}
 use lib.Dec.{leb, ltb, eqb, lit<}
 use borrow.Author.Tests.{leb-true, le-leb, lt-ltb, eqb-true, eq-eqb}
+use Rattle.laws.specs.Each.{Each}
+use Rattle.laws.proofs.Lists.{tab, tab-all}
+use Rattle.laws.proofs.Tests.{both, by-test, cond-taken}
 use Rattle.fields.specs.Digits.{digitsOf, allDigits, valueOf}
 use Rattle.fields.specs.Fields.{Field, plain, length4, code, len, inRange as fits, bodyOk, valuesIn, allIn, bytesOf}
-use Rattle.fields.proofs.DigitLaws.{both, length-digits, digits-digits, value-digits, digits-value}
-use Rattle.fields.proofs.FieldLaws.{read-written, written-read, length-bytes, same-count}
-use Rattle.telegram.specs.Telegram.{Row, nth, timeNotice, operationAnswer, timeRequest, baseArrival, operationRequest, call, callerNotice, captureRequest, captureReply, captureState, table, readRow, readIn, heading, headerOk, readTelegram, rowOf, valuesOf, sizeOf, headed, telegramOf, inRange, sendable}
+use Rattle.fields.proofs.Kept.{length-digits, digits-digits, value-digits, digits-value, read-written, written-read, length-bytes, same-count}
+use Rattle.telegram.specs.Telegram.{Row, nth, timeNotice, operationAnswer, timeRequest, baseArrival, operationRequest, call, callerNotice, captureRequest, captureReply, captureState, table, readRow, readIn, heading, headerOk, readIdentified, readTelegram, rowOf, valuesOf, sizeOf, headed, telegramOf, inRange}
 use Rattle.telegram.specs.Promises.{ReadsBack, WrittenForm, OneForm}
 use Rattle.telegram.specs.declared.message.Message.{Message}
 use Rattle.telegram.specs.declared.message.Message.the-variants.{TimeNotice, OperationAnswer, TimeRequest, BaseArrival, OperationRequest, Call, CallerNotice, CaptureRequest, CaptureReply, CaptureState}
 use Rattle.telegram.specs.declared.message.Reading.{Reading}
 use Rattle.telegram.specs.declared.message.Reading.the-variants.{Telegram, Refused}
 use Rattle.telegram.proofs.SizeLaws.{size-most}
-use Rattle.telegram.proofs.TelegramLaws.{header-tests}
+use Rattle.telegram.proofs.HeaderLaws.{header-tests, header-long}
 
 -- ---- from a message to bytes and back
 
@@ -131,12 +133,12 @@ len-in y m v h = eqb-true v 8 (both (ltb v (10 ^ 1)) (eqb v 8) h .1)
 headed-read : (s : List ℕ) → headerOk s ≡ true → allDigits (take 6 (drop 10 s)) ≡ true
     → (s ≡ headed (length s) (nth (heading s) 1) (valueOf (take 6 (drop 10 s))) (drop 16 s)) × (nth (heading s) 1 ≤ 1023)
 unfolding valuesIn allIn
-headed-read [] h e = absurd (omega (arith, leb-true 16 0 (header-tests [] h .long)))
-headed-read (x ∷ []) h e = absurd (omega (arith, leb-true 16 1 (header-tests (x ∷ []) h .long)))
+headed-read [] h e = absurd (omega (arith, header-long [] h))
+headed-read (x ∷ []) h e = absurd (omega (arith, header-long (x ∷ []) h))
 headed-read (x ∷ y ∷ r) h e =
     let s = x ∷ y ∷ r in
     let q = header-tests s h in
-    let l : 16 ≤ length s = leb-true 16 (length s) (q .long) in
+    let l : 16 ≤ length s = q .long in
     let w = written-read (length4 ∷ code ∷ []) 0 0 (take 8 r) (q .fields) in
     let n : valueOf (take 4 (take 8 r)) ≡ length s = eqb-true _ _ (q .total) in
     let g : 6 ≤ length (drop 8 r) = simp length-drop (omega arith) in
@@ -155,10 +157,6 @@ headed-read (x ∷ y ∷ r) h e =
 abbrev RowLaw : Row → Type 0
 RowLaw r = (vs : List ℕ) → allIn (r .body) 0 0 vs ≡ true → (rowOf (r .make vs) ≡ r) × (valuesOf (r .make vs) ≡ vs)
 
-abbrev Each : List Row → Type 0
-Each [] = Unit {0}
-Each (r ∷ rs) = RowLaw r × Each rs
-
 -- a message that was read from a body is written as that body
 record Back (c i k : ℕ) (b : List ℕ) (m : Message) : Type 0 where
   code-is : c ≡ k
@@ -166,43 +164,33 @@ record Back (c i k : ℕ) (b : List ℕ) (m : Message) : Type 0 where
   values-in : inRange m ≡ true
   bytes-are : bytesOf (rowOf m .body) (valuesOf m) ≡ b
 
+-- what is refused is no message
+not-read : (n c i k : ℕ) (m : Message) → Refused n c i ≡ Telegram k m → ⊥
+not-read n c i k m q = let z : _≡_ {A = ℕ} 0 1 = cc in omega arith
+
 row-back : (r : Row) → RowLaw r → (c k : ℕ) (b : List ℕ) (m : Message) → readRow r c b ≡ Telegram k m → Back c (r .id) k b m
-row-back r law c k b m e = go (bodyOk (r .body) 0 0 b) refl
-  where
-    go : (t : Bool) → bodyOk (r .body) 0 0 b ≡ t → Back c (r .id) k b m
-    go true h =
-        let f : Telegram c (r .make (valuesIn (r .body) b)) ≡ Telegram k m = rw h at e in
-        let w = written-read (r .body) 0 0 b h in
-        let j : r .make (valuesIn (r .body) b) ≡ m = cc in
-        let l = law (valuesIn (r .body) b) (w .0) in
-        let p : rowOf m ≡ r = ap rowOf (sym j) ∙ l .0 in
-        let q : valuesOf m ≡ valuesIn (r .body) b = ap valuesOf (sym j) ∙ l .1 in
-        record { code-is = cc; id-is = rw p; values-in = rw (p, q) (w .0); bytes-are = rw (p, q) (w .1) }
-    go false h = absurd (let f : Refused 10 c (r .id) ≡ Telegram k m = rw h at e in let z : _≡_ {A = ℕ} 0 1 = cc in omega arith)
+row-back r law c k b m e =
+    let vs = valuesIn (r .body) b in
+    let t = cond-taken (bodyOk (r .body) 0 0 b) (Telegram c (r .make vs)) (Refused 10 c (r .id)) e (not-read 10 c (r .id) k m) in
+    let f : Telegram c (r .make vs) ≡ Telegram k m = t .1 in
+    let j : r .make vs ≡ m = cc in
+    let w = written-read (r .body) 0 0 b (t .0) in
+    let l = law vs (w .0) in
+    let p : rowOf m ≡ r = ap rowOf (sym j) ∙ l .0 in
+    let q : valuesOf m ≡ vs = ap valuesOf (sym j) ∙ l .1 in
+    record { code-is = cc; id-is = rw p; values-in = rw (p, q) (w .0); bytes-are = rw (p, q) (w .1) }
 
-table-back : (rs : List Row) → Each rs → (c i k : ℕ) (b : List ℕ) (m : Message) → readIn rs c i b ≡ Telegram k m → Back c i k b m
-table-back [] laws c i k b m e = absurd (let z : _≡_ {A = ℕ} 0 1 = cc in omega arith)
-table-back (r ∷ rs) laws c i k b m e = go (eqb i (r .id)) refl (table-back rs (laws .1) c i k b m)
-  where
-    go : (t : Bool) → eqb i (r .id) ≡ t → (readIn rs c i b ≡ Telegram k m → Back c i k b m) → Back c i k b m
-    go true h rest =
-        let f : readRow r c b ≡ Telegram k m = rw h at e in
-        let a = row-back r (laws .0) c k b m f in
-        record { code-is = a .code-is; id-is = a .id-is ∙ sym (eqb-true _ _ h); values-in = a .values-in; bytes-are = a .bytes-are }
-    go false h rest = rest (rw h at e)
-
--- a list is its elements one by one
-tab : ℕ → (ℕ → ℕ) → List ℕ
-tab zero f = []
-tab (suc n) f = f 0 ∷ tab n (λ i. f (suc i))
-
-tab-all : (vs : List ℕ) → tab (length vs) (λ i. getD vs i 0) ≡ vs
-unfolding tab
-tab-all [] = refl
-tab-all (v ∷ vs) = ap (λ (l : List ℕ). v ∷ l) (tab-all vs)
+table-back : (rs : List Row) → Each RowLaw rs → (c i k : ℕ) (b : List ℕ) (m : Message) → readIn rs c i b ≡ Telegram k m → Back c i k b m
+table-back [] laws c i k b m e = absurd (not-read 9 c i k m e)
+table-back (r ∷ rs) laws c i k b m e =
+    by-test (eqb i (r .id))
+    (λ h.
+    let a = row-back r (laws .0) c k b m (rw h at e) in
+    record { code-is = a .code-is; id-is = a .id-is ∙ sym (eqb-true _ _ h); values-in = a .values-in; bytes-are = a .bytes-are })
+    (λ h. table-back rs (laws .1) c i k b m (rw h at e))
 
 spread : (fs : List Field) (vs : List ℕ) → allIn fs 0 0 vs ≡ true → tab (length fs) (λ i. getD vs i 0) ≡ vs
-spread fs vs h = rw (same-count fs 0 0 vs h) (tab-all vs)
+spread fs vs h = rw (same-count fs 0 0 vs h) (tab-all vs 0)
 
 -- a len field's number is 8
 eight : (fs : List Field) (y m : ℕ) (vs : List ℕ) (i : ℕ) → allIn fs y m vs ≡ true → getD fs i (plain 0) ≡ len → nth vs i ≡ 8
@@ -260,26 +248,23 @@ capture-state vs h =
     let a : nth vs 1 ≡ 8 = eight (captureState .body) 0 0 vs 1 h refl in
     (refl, rw a at (spread (captureState .body) vs h))
 
-laws : Each table
+laws : Each RowLaw table
 laws =
     (time-notice, (operation-answer, (time-request, (base-arrival, (operation-request, (call-start-end, (caller-notice, (capture-request, (capture-reply, (capture-state, tt))))))))))
 
 pub written-form : WrittenForm
 unfolding readTelegram telegramOf
-written-form s c m e = go (headerOk s) refl (allDigits (take 6 (drop 10 s))) refl
-  where
-    go : (t : Bool) → headerOk s ≡ t → (u : Bool) → allDigits (take 6 (drop 10 s)) ≡ u → (sendable c m ≡ true) × (s ≡ telegramOf c m)
-    go true h true d =
-        let f : readIn table (nth (heading s) 1) (valueOf (take 6 (drop 10 s))) (drop 16 s) ≡ Telegram c m = rw (h, d) at e in
-        let a = table-back table laws (nth (heading s) 1) (valueOf (take 6 (drop 10 s))) c (drop 16 s) m f in
-        let r = headed-read s h d in
-        let k : c ≤ 1023 = rw (a .code-is) at (r .1) in
-        let b = length-bytes (rowOf m .body) (valuesOf m) (same-count _ 0 0 _ (a .values-in)) in
-        let n : length s ≡ sizeOf m =
-        omega (arith, b, length-drop 16 s, ap length (a .bytes-are), leb-true 16 (length s) (header-tests s h .long)) in
-        (simp (le-leb c 1023 k, a .values-in), r .0 ∙ (rw (n, a .code-is, ← a .id-is, ← a .bytes-are)))
-    go true h false d = absurd (let f : Refused 9 (nth (heading s) 1) 0 ≡ Telegram c m = rw (h, d) at e in let z : _≡_ {A = ℕ} 0 1 = cc in omega arith)
-    go false h u d = absurd (let f : Refused 8 0 0 ≡ Telegram c m = rw h at e in let z : _≡_ {A = ℕ} 0 1 = cc in omega arith)
+written-form s c m e =
+    let n = nth (heading s) 1 in
+    let i = valueOf (take 6 (drop 10 s)) in
+    let t = cond-taken (headerOk s) (readIdentified n s) (Refused 8 0 0) e (not-read 8 0 0 c m) in
+    let u = cond-taken (allDigits (take 6 (drop 10 s))) (readIn table n i (drop 16 s)) (Refused 9 n 0) (t .1) (not-read 9 n 0 c m) in
+    let a = table-back table laws n i c (drop 16 s) m (u .1) in
+    let r = headed-read s (t .0) (u .0) in
+    let k : c ≤ 1023 = rw (a .code-is) at (r .1) in
+    let b = length-bytes (rowOf m .body) (valuesOf m) (same-count _ 0 0 _ (a .values-in)) in
+    let l : length s ≡ sizeOf m = omega (arith, b, length-drop 16 s, ap length (a .bytes-are), header-long s (t .0)) in
+    (simp (le-leb c 1023 k, a .values-in), r .0 ∙ (rw (l, a .code-is, ← a .id-is, ← a .bytes-are)))
 
 pub one-form : OneForm
 one-form s t c m p q = written-form s c m p .1 ∙ sym (written-form t c m q .1)

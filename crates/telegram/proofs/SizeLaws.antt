@@ -1,18 +1,17 @@
 -- How long telegrams are.
 -- Assumes nothing.
-use Prim.Native.Nat.{ℕ, _≤_}
 use mathlib.Core.Path.{_≡_, refl}
 use native.Mathlib.Omega.{arith}
 use lib.Dec.{lit≤}
 use lib.ListN.{length, length-append}
-use Rattle.fields.proofs.DigitLaws.{length-digits}
-use Rattle.fields.proofs.FieldLaws.{length-bytes}
-use Rattle.telegram.specs.Telegram.{rowOf, valuesOf, sizeOf, telegramOf}
+use Rattle.fields.proofs.Kept.{length-digits, length-bytes}
+use Rattle.telegram.specs.Telegram.{rowOf, valuesOf, telegramOf}
+use Rattle.telegram.specs.Promises.{Sized, AtMost46}
 use Rattle.telegram.specs.declared.message.Message.{Message}
 use Rattle.telegram.specs.declared.message.Message.the-variants.{TimeNotice, OperationAnswer, TimeRequest, BaseArrival, OperationRequest, Call, CallerNotice, CaptureRequest, CaptureReply, CaptureState}
 
 -- the longest is a call start or end
-pub size-most : (m : Message) → sizeOf m ≤ 46
+pub size-most : AtMost46
 size-most (TimeNotice m) = lit≤ tt
 size-most (OperationAnswer m) = lit≤ tt
 size-most TimeRequest = lit≤ tt
@@ -38,6 +37,6 @@ counts (CaptureReply m) = refl
 counts (CaptureState m) = refl
 
 -- a telegram is as long as it says
-pub length-telegram : (c : ℕ) (m : Message) → length (telegramOf c m) ≡ sizeOf m
+pub length-telegram : Sized
 unfolding telegramOf
 length-telegram c m = simp (length-append, length-digits, length-bytes (rowOf m .body) (valuesOf m) (counts m)) (omega arith)

@@ -3,24 +3,18 @@
 use Prim.Native.Nat.{ℕ, zero, suc, _+_, _/_, _%_, _≤_}
 use mathlib.Core.List.{List, [], _∷_, _++_}
 use mathlib.Core.Path.{_≡_, refl, _∙_}
-use native.Mathlib.Nat.{add-zero}
 use native.Mathlib.Omega.{arith}
+use Rattle.laws.proofs.Lists.{sets-append}
 use lib.Dec.{lit≤}
 use lib.ListN.{length, take, drop, set, replicate}
 use lib.Seq.{sets, sets-eq, take-at}
 use Rattle.fields.specs.Digits.{digitsOf}
 use Rattle.fields.specs.Fields.{Field, plain, bytesOf}
-use Rattle.fields.proofs.DigitLaws.{length-digits, digits-none, digits-suc, shifted, digits-split}
+use Rattle.fields.specs.Promises.{shifted}
+use Rattle.fields.proofs.Kept.{length-digits, digits-none, digits-suc, digits-split}
 use Rattle.telegram.specs.Telegram.{rowOf, valuesOf, sizeOf, headed, telegramOf, over}
 use Rattle.telegram.specs.declared.message.Message.{Message}
-use Rattle.telegram.proofs.SizeLaws.{size-most, length-telegram}
-
--- one run of bytes behind another is the run of both
-pub sets-append : (l : List ℕ) (i : ℕ) (xs ys : List ℕ) → sets l i (xs ++ ys) ≡ sets (sets l i xs) (i + length xs) ys
-sets-append l i [] ys = rw add-zero
-sets-append l i (x ∷ xs) ys =
-    let e : suc i + length xs ≡ i + suc (length xs) = omega arith in
-    rw (sets-append (set l i x) (suc i) xs ys, e)
+use Rattle.telegram.proofs.Kept.{size-most, length-telegram}
 
 -- ---- digits
 

@@ -7,17 +7,13 @@ use mathlib.Core.Path.{_≡_, refl, sym, _∙_}
 use borrow.Author.Tests.{lt-ltb, le-ltb, lt-leb, le-leb, eqb-true, eqb-false, ltb-true, ltb-false, not-true, not-false}
 use native.Mathlib.Omega.{arith}
 use lib.Dec.{eqb, leb, ltb}
-use Rattle.fields.proofs.DigitLaws.{both}
+use Rattle.laws.proofs.Tests.{both, neither, by-test, cond-of}
 use Rattle.channel.specs.State.{isHeld, isPresent}
 use Rattle.line_rules.specs.Rules.{Context, Step, tick, tickIdle, tickQuiet, tickRelease}
 use Rattle.timers.specs.Falls.{falling, runOut, tickBy}
 use Rattle.channel.specs.declared.state.Channel.{Channel}
 use Rattle.channel.specs.declared.state.Falling.{Falling}
 use Rattle.channel.specs.declared.state.Falling.the-variants.{Neither, Quiet, Release, Due}
-
-by-cond : (t : Bool) (a b : Falling) (x : Context) (c : Channel) → tickBy (cond t a b) x c ≡ cond t (tickBy a x c) (tickBy b x c)
-by-cond true a b x c = refl
-by-cond false a b x c = refl
 
 -- the timer that runs out is the one that falls
 by-due : (t l m h : Bool) (a b q r e : Step)
@@ -35,11 +31,11 @@ idle-by : (x : Context) (c : Channel) → tickIdle x c ≡ tickBy (idle c) x c
 unfolding tickIdle tickQuiet tickRelease runOut
 idle-by x c =
     by-due (ltb 0 (c .quiet)) (leb (c .quiet) 1) (leb (c .release) 1) (isHeld (c .holder)) _ _ _ _ _
-    ∙ sym (simp by-cond refl)
+    ∙ sym (simp (cond-of (λ (f : Falling). tickBy f x c)) refl)
 
 pub tick-falling : (x : Context) (c : Channel) → tick x c ≡ tickBy (falling c) x c
 unfolding tick falling
-tick-falling x c = simp (by-cond, idle-by) refl
+tick-falling x c = simp (cond-of (λ (f : Falling). tickBy f x c), idle-by) refl
 
 -- ---- what is sent: nothing, unless a timer runs out
 
@@ -63,10 +59,6 @@ talk : (p a : Bool) (f : Falling) → (p || a) ≡ true → cond p Neither (cond
 talk true a f h = refl
 talk false true f h = refl
 talk false false f h = cc
-
-neither : (a b : Bool) → (a || b) ≡ false → (a ≡ false) × (b ≡ false)
-neither true b h = (h, cc)
-neither false b h = (refl, h)
 
 module _ (c : Channel) where
   pub at-rest : (eqb (c .quiet) 0 && not (isHeld (c .holder))) ≡ true → falling c ≡ Neither
@@ -106,12 +98,12 @@ module _ (c : Channel) where
     unfolding falling
     runs-out q t =
         let n = neither (c .pressed) (isPresent (c .arrival)) h in
-        simp (n .0, n .1, go (eqb (c .quiet) 0) refl) refl
-      where
-        go : (u : Bool) → eqb (c .quiet) 0 ≡ u → idle c ≡ Due
-        go true e =
-            let stopped : c .quiet ≤ 0 = omega (arith, eqb-true (c .quiet) 0 e) in
-            simp (le-ltb 0 (c .quiet) stopped, held e, le-leb (c .release) 1 (ltb-false 1 (c .release) (rw e at t))) refl
-        go false e =
-            let runs : 0 < c .quiet = omega (arith, eqb-false (c .quiet) 0 e) in
-            simp (lt-ltb 0 (c .quiet) runs, le-leb (c .quiet) 1 q) refl
+        let due : idle c ≡ Due =
+        by-test (eqb (c .quiet) 0)
+        (λ e.
+        let stopped : c .quiet ≤ 0 = omega (arith, eqb-true (c .quiet) 0 e) in
+        simp (le-ltb 0 (c .quiet) stopped, held e, le-leb (c .release) 1 (ltb-false 1 (c .release) (rw e at t))) refl)
+        (λ e.
+        let runs : 0 < c .quiet = omega (arith, eqb-false (c .quiet) 0 e) in
+        simp (lt-ltb 0 (c .quiet) runs, le-leb (c .quiet) 1 q) refl) in
+        simp (n .0, n .1, due) refl

@@ -4,10 +4,10 @@ use mathlib.Core.Path.{_≡_, sym, ap}
 use native.Mathlib.Omega.{arith}
 use lib.ListN.{length, set}
 use lib.Seq.{set-out}
+use Rattle.laws.proofs.Lists.{any-default}
 use Rattle.set_rules.specs.State.{noDesk, linked}
 use Rattle.set_rules.specs.declared.state.Desk.{Desk}
 use Rattle.set_rules.specs.declared.state.Link.{Link}
-use Rattle.set_rules.proofs.Elements.{any-default}
 use borrow.Author.Needs.{needs}
 use Rattle.changes.proofs.lookup.linked.Statement.{statement}
 use Rattle.changes.proofs.lookup.linked.Tie as tie

@@ -8,9 +8,9 @@ use lib.Dec.{ltb, leb}
 use lib.ListN.{getD, drop}
 use denote.Ref.{now}
 use borrow.Author.Tests.{eq-eqb, ne-eqb, le-ltb, lt-ltb, leb-true, leb-false, not-true, not-false}
-use Rattle.fields.proofs.DigitLaws.{both}
+use Rattle.laws.proofs.Tests.{both}
 use Rattle.telegram.specs.Telegram.{readTelegram}
-use Rattle.telegram.proofs.TelegramLaws.{part-to-end}
+use Rattle.laws.proofs.Lists.{part-to-end}
 use Rattle.set_rules.specs.State.{noDesk}
 use Rattle.set_rules.specs.Refusals.{fromDesk, firstOf}
 use Rattle.set_rules.specs.declared.state.Desk.{Desk}

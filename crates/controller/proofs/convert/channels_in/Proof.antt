@@ -1,9 +1,6 @@
 -- `controller::convert::channels_in` meets its contract: a channel a turn.
 -- Assumes nothing.
-use Prim.Native.Nat.{_-_, _≤_}
-use mathlib.Core.Path.{_≡_, sym}
-use native.Mathlib.Omega.{arith}
-use lib.ListN.{length}
+use Prim.Native.Nat.{_-_}
 use borrow.Author.Needs.{needs}
 use Rattle.controller.specs.Plain.{channelIn}
 use Rattle.controller.proofs.Maps.{Mapped, map-start, map-next, map-done}
@@ -11,27 +8,19 @@ use Rattle.controller.proofs.convert.channels_in.Statement.{statement}
 use Rattle.controller.proofs.convert.channels_in.Tie as tie
 
 abbrev Inv-loop : tie.InvT-loop
-Inv-loop plain channels₀ i₀ channels i = Mapped channelIn plain i channels × (i ≤ 32)
+Inv-loop plain channels₀ i₀ channels i = Mapped channelIn 32 plain i channels
 
 abbrev μ-loop : tie.MeasureT-loop
 μ-loop plain channels₀ i₀ channels i = 32 - i
 
 loop-holds : tie.Need-loop-holds Inv-loop μ-loop
-loop-holds c =
-    let n : length (c .before .before .args .t1) ≡ 32 = search needs in
-    (map-start channelIn _ _ (sym n), omega arith)
+loop-holds c = map-start (search needs) (search needs)
 
 loop-again : tie.Need-loop-again Inv-loop μ-loop
-loop-again c =
-    let l = c .before .before .before .loop in
-    let n : length (c .before .before .before .before .before .before .args .t1) ≡ 32 = search needs in
-    (map-next channelIn _ (l .i) _ (omega (arith, n, c .before .before .loop-test .taken)) (c .channel-in2 .ensures) (l .inv .0), omega (arith, c .before .before .loop-test .taken))
+loop-again c = map-next (c .before .before .before .loop .inv) (c .before .before .loop-test .taken) _ (c .channel-in2 .ensures)
 
 returns : tie.Need-returns Inv-loop μ-loop
-returns c =
-    let l = c .before .loop in
-    let n : length (c .before .before .before .before .args .t1) ≡ 32 = search needs in
-    map-done channelIn _ (l .i) (omega (arith, n, c .loop-test .left)) (l .inv .0)
+returns c = map-done (c .before .loop .inv) (c .loop-test .left)
 
 pub channels-in-spec : {M : Type 1} → statement M
 channels-in-spec =

@@ -1,9 +1,6 @@
 -- `controller::convert::channels_of` meets its contract: a channel a turn.
 -- Assumes nothing.
-use Prim.Native.Nat.{_-_, _≤_}
-use mathlib.Core.Path.{_≡_, sym}
-use native.Mathlib.Omega.{arith}
-use lib.ListN.{length}
+use Prim.Native.Nat.{_-_}
 use borrow.Author.Needs.{needs}
 use Rattle.controller.specs.Plain.{channelOf}
 use Rattle.controller.proofs.Maps.{Mapped, map-start, map-next, map-done}
@@ -11,27 +8,19 @@ use Rattle.controller.proofs.convert.channels_of.Statement.{statement}
 use Rattle.controller.proofs.convert.channels_of.Tie as tie
 
 abbrev Inv-loop : tie.InvT-loop
-Inv-loop channels plain₀ i₀ plain i = Mapped channelOf channels i plain × (i ≤ 32)
+Inv-loop channels plain₀ i₀ plain i = Mapped channelOf 32 channels i plain
 
 abbrev μ-loop : tie.MeasureT-loop
 μ-loop channels plain₀ i₀ plain i = 32 - i
 
 loop-holds : tie.Need-loop-holds Inv-loop μ-loop
-loop-holds c =
-    let n : length (c .before .before .args .t1) ≡ 32 = search needs in
-    (map-start channelOf _ _ (sym n), omega arith)
+loop-holds c = map-start (search needs) (search needs)
 
 loop-again : tie.Need-loop-again Inv-loop μ-loop
-loop-again c =
-    let l = c .before .before .before .loop in
-    let n : length (c .before .before .before .before .before .before .args .t1) ≡ 32 = search needs in
-    (map-next channelOf _ (l .i) _ (omega (arith, n, c .before .before .loop-test .taken)) (c .channel-of2 .ensures) (l .inv .0), omega (arith, c .before .before .loop-test .taken))
+loop-again c = map-next (c .before .before .before .loop .inv) (c .before .before .loop-test .taken) _ (c .channel-of2 .ensures)
 
 returns : tie.Need-returns Inv-loop μ-loop
-returns c =
-    let l = c .before .loop in
-    let n : length (c .before .before .before .before .args .t1) ≡ 32 = search needs in
-    map-done channelOf _ (l .i) (omega (arith, n, c .loop-test .left)) (l .inv .0)
+returns c = map-done (c .before .loop .inv) (c .loop-test .left)
 
 pub channels-of-spec : {M : Type 1} → statement M
 channels-of-spec =

@@ -1,9 +1,6 @@
 -- `controller::convert::desks_of` meets its contract: a desk a turn.
 -- Assumes nothing.
-use Prim.Native.Nat.{_-_, _≤_}
-use mathlib.Core.Path.{_≡_, sym}
-use native.Mathlib.Omega.{arith}
-use lib.ListN.{length}
+use Prim.Native.Nat.{_-_}
 use borrow.Author.Needs.{needs}
 use Rattle.controller.specs.Plain.{deskOf}
 use Rattle.controller.proofs.Maps.{Mapped, map-start, map-next, map-done}
@@ -11,27 +8,19 @@ use Rattle.controller.proofs.convert.desks_of.Statement.{statement}
 use Rattle.controller.proofs.convert.desks_of.Tie as tie
 
 abbrev Inv-loop : tie.InvT-loop
-Inv-loop desks plain₀ i₀ plain i = Mapped deskOf desks i plain × (i ≤ 4)
+Inv-loop desks plain₀ i₀ plain i = Mapped deskOf 4 desks i plain
 
 abbrev μ-loop : tie.MeasureT-loop
 μ-loop desks plain₀ i₀ plain i = 4 - i
 
 loop-holds : tie.Need-loop-holds Inv-loop μ-loop
-loop-holds c =
-    let n : length (c .before .before .args .t1) ≡ 4 = search needs in
-    (map-start deskOf _ _ (sym n), omega arith)
+loop-holds c = map-start (search needs) (search needs)
 
 loop-again : tie.Need-loop-again Inv-loop μ-loop
-loop-again c =
-    let l = c .before .before .before .loop in
-    let n : length (c .before .before .before .before .before .before .args .t1) ≡ 4 = search needs in
-    (map-next deskOf _ (l .i) _ (omega (arith, n, c .before .before .loop-test .taken)) (c .desk-of2 .ensures) (l .inv .0), omega (arith, c .before .before .loop-test .taken))
+loop-again c = map-next (c .before .before .before .loop .inv) (c .before .before .loop-test .taken) _ (c .desk-of2 .ensures)
 
 returns : tie.Need-returns Inv-loop μ-loop
-returns c =
-    let l = c .before .loop in
-    let n : length (c .before .before .before .before .args .t1) ≡ 4 = search needs in
-    map-done deskOf _ (l .i) (omega (arith, n, c .loop-test .left)) (l .inv .0)
+returns c = map-done (c .before .loop .inv) (c .loop-test .left)
 
 pub desks-of-spec : {M : Type 1} → statement M
 desks-of-spec =

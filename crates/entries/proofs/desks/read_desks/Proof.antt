@@ -9,7 +9,7 @@ use native.Mathlib.Nat.{sub-zero}
 use native.Mathlib.Numerals.{add-one}
 use lib.ListN.{length, drop, length-set}
 use lib.Seq.{sets}
-use Rattle.telegram.proofs.TelegramLaws.{part-to-end}
+use Rattle.laws.proofs.Lists.{part-to-end}
 use Rattle.set_rules.specs.State.{noDesk}
 use Rattle.set_rules.specs.Plan.{desksOk, desksIn, filled}
 use Rattle.entries.specs.Planned.{deskIn, desksRead}
@@ -36,7 +36,7 @@ loop-holds : tie.Need-loop-holds Inv-loop μ-loop
 loop-holds c =
     let st = c .before .before in
     let h : length (desksIn (st .args .n) (st .args .s .now)) ≤ 4 = rw length-desks (search needs) in
-    (search needs, search needs, search needs, rw sub-zero, rw (sub-zero, c .no-desk .ensures) (filled-sets 4 noDesk (desksIn (st .args .n) (st .args .s .now)) h))
+    (search needs, search needs, search needs, rw sub-zero, rw (sub-zero, c .none .ensures) (filled-sets 4 noDesk (desksIn (st .args .n) (st .args .s .now)) h))
 
 enum-told : tie.Need-enum-told Inv-loop μ-loop
 enum-told c = search needs

@@ -8,7 +8,7 @@ use native.Mathlib.Omega.{arith}
 use lib.Dec.{eqb, leb}
 use lib.ListN.{length}
 use borrow.Author.Tests.{not-true, not-false, leb-true, eq-eqb, ne-eqb}
-use Rattle.fields.proofs.DigitLaws.{both}
+use Rattle.laws.proofs.Tests.{both}
 use Rattle.set_rules.specs.Entries.{word, measured, readEntry}
 use Rattle.entries.specs.Payloads.{payloadIn}
 use borrow.Author.Needs.{needs}

@@ -2,7 +2,7 @@
 -- Assumes nothing.
 use mathlib.Core.Bool.{or-false, and-true}
 use borrow.Author.Tests.{ne-eqb}
-use Rattle.set_rules.specs.ByKind.{pick}
+use Rattle.laws.specs.Table.{pick}
 use Rattle.entries.specs.Payloads.{payloadIn, bareIn}
 use borrow.Author.Needs.{needs}
 use Rattle.entries.proofs.entry.read_payload.Statement.{statement}

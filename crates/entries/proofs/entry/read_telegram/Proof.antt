@@ -1,7 +1,7 @@
 -- `entries::entry::read_telegram` meets its contract: the size is tested, and the payload starts with a desk.
 -- Assumes nothing.
 use borrow.Author.Tests.{le-leb, lt-leb}
-use Rattle.set_rules.specs.ByKind.{pick}
+use Rattle.laws.specs.Table.{pick}
 use Rattle.entries.specs.Payloads.{payloadIn}
 use borrow.Author.Needs.{needs}
 use Rattle.entries.proofs.entry.read_telegram.Statement.{statement}

@@ -8,7 +8,7 @@ use native.Mathlib.Omega.{arith}
 use lib.ListN.{length-drop}
 use borrow.Author.Needs.{needs}
 use borrow.Author.Tests.{not-true, not-false}
-use Rattle.telegram.proofs.TelegramLaws.{part-to-end}
+use Rattle.laws.proofs.Lists.{part-to-end}
 use Rattle.set_rules.specs.State.{noDesk}
 use Rattle.set_rules.specs.Plan.{desksOk, distinct, deskCount, desksPart, channelCount, channelsPart, planOk, filled, setOf}
 use Rattle.set_rules.specs.declared.state.Desk.{Desk}

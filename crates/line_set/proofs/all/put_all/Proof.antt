@@ -6,12 +6,13 @@ use mathlib.Core.Path.{_≡_, sym, ap, subst, _∙_}
 use native.Mathlib.Nat.{zero-add}
 use native.Mathlib.Omega.{arith}
 use lib.ListN.{length, drop, set, length-map}
+use Rattle.laws.proofs.Lists.{at-taken}
 use Rattle.channel.specs.declared.state.Channel.{Channel}
 use Rattle.channel.specs.declared.state.Event.{Event}
 use Rattle.set_rules.specs.State.{noChannel, channelsOf}
 use Rattle.set_rules.specs.declared.state.LineSet.{LineSet}
 use borrow.Author.Needs.{needs}
-use Rattle.line_set.proofs.Seeking.{count-is, at-taken}
+use Rattle.line_set.proofs.Seeking.{count-is}
 use denote.Ref.{now}
 use Rattle.records.specs.Emitting.{written}
 use Rattle.records.proofs.Writing.{Writing, start, next, room, done}

@@ -4,6 +4,7 @@ use mathlib.Core.Bool.{Bool, false, false≢true}
 use mathlib.Core.Path.{_≡_, refl, sym, ap, subst, _∙_}
 use native.Mathlib.Omega.{arith}
 use lib.ListN.{length, set, getD, length-map}
+use Rattle.laws.proofs.Lists.{at-taken}
 use Rattle.line_rules.specs.Rules.{Context, tick}
 use Rattle.timers.proofs.Ticks.{silent-neither, silent-quiet, silent-release}
 use Rattle.channel.specs.declared.state.Channel.{Channel}

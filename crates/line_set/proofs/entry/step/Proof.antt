@@ -9,13 +9,13 @@ use lib.Dec.{eqb}
 use lib.ListN.{length, length-map}
 use denote.Ref.{now}
 use borrow.Author.Tests.{eq-eqb, ne-eqb, eqb-true}
-use Rattle.fields.proofs.DigitLaws.{both}
-use Rattle.telegram.proofs.TelegramLaws.{part-to-end}
+use Rattle.laws.proofs.Lists.{part-to-end, any-default, at-taken}
+use Rattle.laws.proofs.Tests.{both}
 use Rattle.channel.specs.declared.state.Channel.{Channel}
 use Rattle.set_rules.specs.State.{noChannel, channelsOf, placeOf}
 use Rattle.set_rules.specs.Entries.{readEntry}
 use Rattle.set_rules.specs.declared.state.Entry.{Entry}
-use Rattle.set_rules.proofs.Elements.{any-default}
+use Rattle.laws.proofs.Lists.{any-default}
 use borrow.Author.Needs.{needs}
 use Rattle.line_set.proofs.WholeSet.{tick-step, handover-step}
 use Rattle.changes.proofs.Changing.{gives-as}

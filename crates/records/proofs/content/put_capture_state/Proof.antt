@@ -1,7 +1,7 @@
 -- `records::content::put_capture_state` meets its contract: a telegram at the front of the part, with the number for that desk.
 -- Assumes nothing.
 use mathlib.Core.Path.{_∙_, sym}
-use Rattle.telegram.proofs.SizeLaws.{length-telegram}
+use Rattle.telegram.proofs.Kept.{length-telegram}
 use Rattle.records.proofs.Writing.{written-over}
 use borrow.Author.Needs.{needs}
 use Rattle.records.proofs.content.put_capture_state.Statement.{statement}

@@ -7,7 +7,7 @@ use lib.ListN.{length}
 use lib.Dec.{eqb, lit≤}
 use borrow.Author.Tests.{not-true, not-false, le-leb, lt-leb, eq-eqb, ne-eqb}
 use Rattle.fields.specs.Fields.{length4, code, valuesIn}
-use Rattle.fields.proofs.FieldLaws.{fields-found, fields-none}
+use Rattle.fields.proofs.Kept.{fields-found, fields-none}
 use Rattle.telegram.specs.Telegram.{nth, heading, headerOk}
 use borrow.Author.Needs.{needs}
 use Rattle.telegram_reader.proofs.reader.read_header.Statement.{statement}

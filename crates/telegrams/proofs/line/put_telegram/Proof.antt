@@ -6,7 +6,7 @@ use native.Mathlib.Omega.{arith}
 use lib.ListN.{length, length-set}
 use borrow.Rule.Slice.PartMut.{same-len-mid}
 use Rattle.telegram.specs.Telegram.{sizeOf}
-use Rattle.telegram.proofs.SizeLaws.{size-most}
+use Rattle.telegram.proofs.Kept.{size-most}
 use Rattle.telegrams.proofs.Count.{count-is}
 use borrow.Author.Needs.{needs}
 use Rattle.telegrams.proofs.line.put_telegram.Statement.{statement}

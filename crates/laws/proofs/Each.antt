@@ -3,7 +3,12 @@
 use Prim.Native.Nat.{ℕ, zero, suc}
 use mathlib.Core.List.{List, [], _∷_, _++_}
 use lib.ListN.{take, drop, getD, set, replicate}
-use Rattle.set_rules.specs.Invariant.{Each}
+use Rattle.laws.specs.Each.{Each}
+
+-- what is shown of one element, and then of those behind it
+infixr 4 _▹_
+pub _▹_ : {A B : Type 0} → A → B → A × B
+a ▹ b = (a, b)
 
 module _ {A : Type 0} (P : A → Type 0) where
   pub each-at : (xs : List A) (z : A) → Each P xs → P z → (i : ℕ) → P (getD xs i z)

@@ -1,0 +1,4 @@
+pub mod Each
+pub mod Lists
+pub mod Tests
+pub mod Table
