@@ -2,15 +2,10 @@
 mod choices;
 mod sends;
 
+pub use choices::GENERAL;
 pub use choices::holder_set;
 pub use choices::is_open;
 pub use choices::kind_of;
-pub use choices::mobile_recipients;
-pub use choices::new_call;
-pub use choices::opened_by;
-pub use choices::quiet_after_mobile;
-pub use choices::quiet_after_press;
-pub use choices::release_after;
 pub use choices::set_if;
 pub use sends::DESK;
 pub use sends::DOWN;

@@ -1,4 +1,5 @@
 // The line rules on talk, as code.
+mod choices;
 mod talk;
 
 pub use talk::mobile_off;

@@ -1,4 +1,10 @@
 // Talk on a channel: the rules for a holder's press and for a mobile.
+use super::choices::mobile_recipients;
+use super::choices::new_call;
+use super::choices::opened_by;
+use super::choices::quiet_after_mobile;
+use super::choices::quiet_after_press;
+use super::choices::release_after;
 use channel::Arrival;
 use channel::Channel;
 use channel::Moved;
@@ -9,15 +15,9 @@ use sends::UP;
 use sends::holder_set;
 use sends::kind_of;
 use sends::mobile_off_sends;
-use sends::mobile_recipients;
 use sends::mobile_sends;
-use sends::new_call;
-use sends::opened_by;
 use sends::opening;
 use sends::press_sends;
-use sends::quiet_after_mobile;
-use sends::quiet_after_press;
-use sends::release_after;
 use telegram::Number;
 ghost use Rattle.telegram.specs.Telegram.{num};
 ghost use Rattle.line_rules.specs.Rules.{pressOn, pressOff, mobileOn, mobileOff};
