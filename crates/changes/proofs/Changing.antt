@@ -17,11 +17,11 @@ use Rattle.records.proofs.Writing.{written-over}
 use Rattle.set_rules.specs.State.{noChannel, withDesks, withChannels}
 use Rattle.set_rules.specs.Records.{delivered, recordsOf, spaceOf}
 use Rattle.set_rules.specs.SetRules.{Effect, effect, movedBy, onChannel}
-use Rattle.set_rules.specs.Feeds.{Outcome, answerOf, refuse, emit}
+use Rattle.set_rules.specs.Feeds.{Gives, Outcome, answerOf, refuse, emit}
 use Rattle.set_rules.specs.declared.state.LineSet.{LineSet}
 use Rattle.set_rules.specs.declared.state.Answer.{Answer}
 use Rattle.set_rules.proofs.Answers.{AllEven, space-length}
-use Rattle.changes.specs.Changes.{Gives, stored, unchanged, Stands}
+use Rattle.changes.specs.Changes.{stored, unchanged, Stands}
 use Rattle.changes.specs.declared.change.Change.{Change}
 
 -- what is not refused

@@ -2,13 +2,13 @@
 -- Assumes nothing.
 use Prim.Native.Nat.{ℕ, zero, suc, _≤_}
 use mathlib.Core.List.{List, [], _∷_, _++_}
-use mathlib.Core.Bool.{Bool, true, false, _&&_, _||_, not, cond, false≢true}
+use mathlib.Core.Bool.{Bool, true, false, _&&_, _||_, not, cond}
 use mathlib.Core.Logic.{_⊎_, inl, inr}
 use mathlib.Core.Path.{_≡_, refl, sym, ap, ap₂, subst, _∙_}
 use native.Mathlib.Omega.{arith}
 use lib.Dec.{eqb, ltb, leb}
 use lib.ListN.{getD}
-use borrow.Author.Tests.{eqb-true, eqb-false, eq-eqb, ne-eqb, lt-ltb, leb-false}
+use borrow.Author.Tests.{eqb-true, eqb-false, ne-eqb, lt-ltb, leb-false}
 use Rattle.laws.proofs.Each.{_▹_}
 use Rattle.telegram.specs.Telegram.{readTelegram, rowOf}
 use Rattle.telegram.specs.declared.message.Number.{Number}
@@ -18,9 +18,9 @@ use Rattle.channel.specs.declared.state.Channel.{Channel}
 use Rattle.laws.specs.Table.{pick}
 use Rattle.set_rules.specs.State.{noDesk, hasChannel, channelAt}
 use Rattle.set_rules.specs.Entries.{telegramIn}
-use Rattle.set_rules.specs.Refusals.{Lookup, lookup, Test, isKind, deskSends, codeIs, identifierIs, bodyReads, askedBy, askedIn, namedBy, table, firstOf, refusalOf}
+use Rattle.set_rules.specs.Refusals.{Lookup, lookup, Test, isKind, deskSends, codeIs, identifierIs, bodyReads, askedBy, askedIn, namedBy, firstOf, refusalOf}
 use Rattle.set_rules.specs.SetRules.{Effect, accepted, byHolder, onRequest}
-use Rattle.set_rules.specs.Feeds.{Outcome, refuse, emit, outcomeOf}
+use Rattle.set_rules.specs.Feeds.{refuse, emit, outcomeOf}
 use Rattle.laws.specs.Each.{Each}
 use Rattle.set_rules.specs.declared.state.Desk.{Desk}
 use Rattle.set_rules.specs.declared.state.Entry.{Entry}

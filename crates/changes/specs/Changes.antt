@@ -6,13 +6,12 @@ use mathlib.Core.Bool.{Bool, true, cond}
 use mathlib.Core.Path.{_≡_}
 use lib.Dec.{eqb}
 use lib.ListN.{length, getD, set}
-use Rattle.telegram.specs.Telegram.{over}
 use Rattle.channel.specs.declared.state.Channel.{Channel}
 use Rattle.channel.specs.declared.state.Event.{Event}
 use Rattle.channel.specs.declared.state.Event.the-variants.{Cut, PressOn, PressOff, MobileOn, MobileOff}
 use Rattle.set_rules.specs.State.{noChannel, placeIn, hasChannel, channelAt, withDesks, withChannels}
 use Rattle.set_rules.specs.SetRules.{numberIn}
-use Rattle.set_rules.specs.Feeds.{Outcome, answerOf, outcomeOf}
+use Rattle.set_rules.specs.Feeds.{Outcome, Gives, outcomeOf}
 use Rattle.set_rules.specs.declared.state.Desk.{Desk}
 use Rattle.set_rules.specs.declared.state.Entry.{Entry}
 use Rattle.set_rules.specs.declared.state.LineSet.{LineSet}
@@ -21,11 +20,6 @@ use Rattle.changes.specs.Asking.{seen, askedOf, namedIn}
 use Rattle.changes.specs.declared.request.Asked.{Asked}
 use Rattle.changes.specs.declared.request.Asked.the-variants.{OnLine}
 use Rattle.changes.specs.declared.change.Change.{Change}
-
--- an answer and a buffer after, as an outcome gives them
-pub record Gives (o : Outcome) (r : Answer) (before after : List ℕ) : Type 0 where
-  pub answer : r ≡ answerOf o
-  pub bytes : after ≡ over (o .bytes) before
 
 -- a set of which n desks of ds are planned, and k of some channels
 abbrev pub setWith : Bool → List Desk → ℕ → List Channel → ℕ → LineSet

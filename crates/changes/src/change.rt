@@ -15,7 +15,6 @@ ghost use Prim.Native.Nat.{ℕ};
 ghost use mathlib.Core.Path.{_≡_};
 ghost use mathlib.Core.Bool.{Bool, true, cond};
 ghost use lib.Dec.{eqb};
-ghost use lib.ListN.{length};
 ghost use Rattle.sends.specs.Scripts.{Follows};
 ghost use Rattle.set_rules.specs.SetRules.{movedBy, numberIn, timeTaken, answerTaken, onChannel};
 ghost use Rattle.set_rules.specs.Feeds.{emit};
@@ -60,7 +59,7 @@ fn on_channel(desks: [Desk; 4], n: u8, d: u8, event: Event, c: Channel, buffer: 
     if buffer.len() < need {
         return refuse(desks, c, 16);
     }
-    let end = records::put(buffer, 0, desks, c.code, sends);
+    records::put(buffer, 0, desks, c.code, sends);
     let next = m.next;
     Change {
         channel: next,
@@ -129,7 +128,7 @@ fn time_told(desks: [Desk; 4], d: u8, c: Channel, buffer: &mut [u8]) -> Change
     if buffer.len() < need {
         return refuse(desks, c, 16);
     }
-    let end = records::put_to(buffer, 0, desks, recipients, Body::OperationRequest);
+    records::put_to(buffer, 0, desks, recipients, Body::OperationRequest);
     let desk = set_rules::desk_at(desks, d);
     let link = desk.link.time_told();
     let after = lookup::linked(desks, d, link);

@@ -4,7 +4,6 @@ use fields::Digits;
 use set_rules::Desk;
 use set_rules::Entry;
 use set_rules::Request;
-ghost use Prim.Native.Nat.{ℕ};
 ghost use mathlib.Core.Path.{_≡_};
 ghost use mathlib.Core.Bool.{cond};
 ghost use lib.Dec.{eqb};

@@ -2,9 +2,10 @@
 use Prim.Native.Nat.{ℕ}
 use mathlib.Core.List.{List, map}
 use mathlib.Core.Bool.{Bool, cond}
+use mathlib.Core.Path.{_≡_}
 use lib.Dec.{eqb}
 use lib.ListN.{replicate}
-use Rattle.telegram.specs.Telegram.{num}
+use Rattle.telegram.specs.Telegram.{num, over}
 use Rattle.channel.specs.declared.state.Holder.{Holder}
 use Rattle.channel.specs.declared.state.Holder.the-variants.{Nobody, Held}
 use Rattle.channel.specs.declared.state.Call.{Call}
@@ -90,3 +91,10 @@ plainAfter p o = cond (eqb (o .refusal) 0) (plainOf (o .after)) p
 -- the answer to an entry, with the set as numbers
 abbrev pub keptOf : PlainSet → Outcome → Kept
 keptOf p o = record { set = plainAfter p o; count = o .count; refusal = o .refusal }
+
+abbrev pub Keeps : PlainSet → Outcome → Kept → List ℕ → List ℕ → Type 0
+Keeps p o r before after = (r ≡ keptOf p o) × (after ≡ over (o .bytes) before)
+
+-- the same where the numbers and the count lie in the caller's memory: q and n are what lies there after it
+abbrev pub KeepsIn : PlainSet → Outcome → ℕ → ℕ → PlainSet → List ℕ → List ℕ → Type 0
+KeepsIn p o r n q before after = (r ≡ o .refusal) × ((n ≡ o .count) × ((q ≡ plainAfter p o) × (after ≡ over (o .bytes) before)))

@@ -5,10 +5,9 @@ use super::plain::PlainSet;
 use set_rules::LineSet;
 ghost use mathlib.Core.Path.{_≡_};
 ghost use lib.ListN.{length};
-ghost use Rattle.telegram.specs.Telegram.{over};
 ghost use Rattle.set_rules.specs.State.{newSet};
 ghost use Rattle.set_rules.specs.Feeds.{stepOf};
-ghost use Rattle.controller.specs.Plain.{setIn, plainOf, plainAfter, setSize, setAlign, keptOf};
+ghost use Rattle.controller.specs.Plain.{setIn, plainOf, setSize, setAlign, Keeps, KeepsIn};
 
 // The answer to an entry, with the set as numbers.
 pub struct Kept {
@@ -26,7 +25,7 @@ fn new_plain() -> PlainSet
 
 // A refused entry leaves every number as it is, even of a set that nobody made.
 fn step_plain(plain: PlainSet, entry: &[u8], buffer: &mut [u8]) -> Kept
-    ensures { λ r. ⌜ (r ≡ keptOf plain (stepOf (setIn plain) (now (entry .entry)) (length (now (buffer .entry))))) × (now (buffer .exit) ≡ over (stepOf (setIn plain) (now (entry .entry)) (length (now (buffer .entry))) .bytes) (now (buffer .entry))) ⌝ }
+    ensures { λ r. ⌜ Keeps plain (stepOf (setIn plain) (now (entry .entry)) (length (now (buffer .entry)))) r (now (buffer .entry)) (now (buffer .exit)) ⌝ }
 {
     let set = convert::set_in(plain);
     let a = line_set::step(set, entry, buffer);
@@ -79,7 +78,7 @@ pub extern "C" fn imjauska_step(
     buffer: &mut [u8],
     count: &mut usize,
 ) -> u8
-    ensures { λ r. ⌜ (r ≡ stepOf (setIn (now (set .entry))) (now (entry .entry)) (length (now (buffer .entry))) .refusal) × ((now (count .exit) ≡ stepOf (setIn (now (set .entry))) (now (entry .entry)) (length (now (buffer .entry))) .count) × ((now (set .exit) ≡ plainAfter (now (set .entry)) (stepOf (setIn (now (set .entry))) (now (entry .entry)) (length (now (buffer .entry))))) × (now (buffer .exit) ≡ over (stepOf (setIn (now (set .entry))) (now (entry .entry)) (length (now (buffer .entry))) .bytes) (now (buffer .entry))))) ⌝ }
+    ensures { λ r. ⌜ KeepsIn (now (set .entry)) (stepOf (setIn (now (set .entry))) (now (entry .entry)) (length (now (buffer .entry)))) r (now (count .exit)) (now (set .exit)) (now (buffer .entry)) (now (buffer .exit)) ⌝ }
 {
     let a = step_plain(*set, entry, buffer);
     *set = a.set;

@@ -1,18 +1,18 @@
 -- What shuts out 01's traps on the bench, and its case of ten and 130 ticks.
 -- Assumes nothing.
-use Prim.Native.Nat.{ℕ, zero, suc}
+use Prim.Native.Nat.{ℕ}
 use mathlib.Core.List.{List, [], _∷_, _++_}
 use mathlib.Core.Bool.{true}
 use mathlib.Core.Path.{_≡_, refl, ap, _∙_}
-use lib.Dec.{eqb, ltb, leb}
+use lib.Dec.{ltb, leb}
 use lib.ListN.{replicate}
 use Rattle.laws.specs.Each.{Each}
 use Rattle.laws.proofs.Each.{each-append}
 use Rattle.laws.proofs.Tests.{either}
 use Rattle.telegram.specs.declared.message.Number.{Number}
 use Rattle.channel.specs.State.{only, isHeld, heldBy, holderPlace, isPresent}
-use Rattle.line_rules.specs.Rules.{Context, Step, to, sentIf, quietTime, releaseTime, openingSends, endOf, pressOffSends, mobileOffSends, freedSends, capture, captureAt, cut, release, pressOn, pressCall, pressOff, mobileOn, mobileRecipients, mobileCall, mobileOff, tick, tickIdle, tickQuiet, tickRelease, handover, happens}
-use Rattle.line_rules.specs.Promises.{GoesTo, OnToTheHolder, OffToTheTold, ToldAreKept, IsAbout, AboutTheHolder, NumberForTheHolder, ArrivalOutlivesACut, OneTimerAtATime, TenAndAHundredAndThirty, quietly, sentByTicks, recipientsOf}
+use Rattle.line_rules.specs.Rules.{Context, Step, to, sentIf, openingSends, endOf, pressOffSends, mobileOffSends, freedSends, capture, captureAt, cut, release, pressOn, pressCall, pressOff, mobileOn, mobileRecipients, mobileCall, mobileOff, tick, tickIdle, tickQuiet, tickRelease, handover, happens}
+use Rattle.line_rules.specs.Promises.{GoesTo, OnToTheHolder, OffToTheTold, ToldAreKept, IsAbout, AboutTheHolder, NumberForTheHolder, ArrivalOutlivesACut, OneTimerAtATime, TenAndAHundredAndThirty, quietly, sentByTicks}
 use Rattle.channel.specs.declared.state.Holder.{Holder}
 use Rattle.channel.specs.declared.state.Holder.the-variants.{Nobody, Held}
 use Rattle.channel.specs.declared.state.Call.{Call}

@@ -5,12 +5,11 @@ use Prim.Native.Nat.{ℕ, zero, suc, _-_}
 use mathlib.Core.List.{List, [], map, map-append}
 use mathlib.Core.Bool.{Bool, true, false}
 use mathlib.Core.Path.{_≡_, refl, ap}
-use lib.Dec.{eqb, leb, ltb}
 use Rattle.laws.proofs.Tests.{cond-of}
 use Rattle.telegram.specs.Telegram.{num}
 use Rattle.telegram.specs.declared.message.Number.{Number}
-use Rattle.channel.specs.State.{isHeld, freeChannel, heldBy, holderPlace, only, isIn, isPresent}
-use Rattle.line_rules.specs.Rules.{Context, Step, step, to, withHolder, withPressed, withCall, withArrival, withQuiet, withRelease, holderSet, isOpen, openedBy, startOf, openingSends, endOf, kindOf, pressNotice, pressOffSends, mobileOffSends, freedSends, captureAt, capture, cut, release, pressCall, pressOn, pressOff, mobileRecipients, mobileCall, mobileOn, mobileOff, tickQuiet, tickRelease, tickIdle, tick, handover, happens}
+use Rattle.channel.specs.State.{isIn, isPresent}
+use Rattle.line_rules.specs.Rules.{Context, Step, step, to, isOpen, openedBy, openingSends, endOf, kindOf, mobileOffSends, captureAt, capture, cut, release, pressOn, pressOff, mobileRecipients, mobileCall, mobileOn, mobileOff, tickQuiet, tickRelease, tickIdle, tick, handover, happens}
 use Rattle.channel.specs.declared.state.Holder.{Holder}
 use Rattle.channel.specs.declared.state.Holder.the-variants.{Nobody, Held}
 use Rattle.channel.specs.declared.state.Call.{Call}

@@ -7,7 +7,6 @@ use mathlib.Core.Path.{_≡_}
 use lib.Dec.{eqb, ltb}
 use lib.ListN.{replicate}
 use Rattle.laws.specs.Each.{Each}
-use Rattle.telegram.specs.Telegram.{num}
 use Rattle.telegram.specs.declared.message.Number.{Number}
 use Rattle.channel.specs.State.{only, holderPlace}
 use Rattle.line_rules.specs.Rules.{Context, quietTime, releaseTime, cut, pressOff, mobileOn, mobileOff, tick, endOf, freedSends, happens}

@@ -4,7 +4,6 @@ use Prim.Native.Nat.{ℕ, _<_}
 use mathlib.Core.List.{List, [], _∷_}
 use mathlib.Core.Bool.{false, false≢true}
 use mathlib.Core.Path.{_≡_, refl, sym, ap, _∙_}
-use native.Mathlib.Omega.{arith}
 use lib.ListN.{length}
 use borrow.Author.Tests.{lt-leb}
 use Rattle.lines.specs.Sending.{sendsAny}
@@ -14,12 +13,11 @@ use Rattle.records.specs.Emitting.{written}
 use Rattle.records.proofs.Writing.{written-none}
 use Rattle.set_rules.specs.Records.{Delivery, recordsOf, spaceOf}
 use Rattle.set_rules.specs.SetRules.{Effect}
-use Rattle.set_rules.specs.Feeds.{answerOf, refuse, emit}
+use Rattle.set_rules.specs.Feeds.{Gives, answerOf, refuse, emit}
 use Rattle.set_rules.proofs.Answers.{AllEven, space-length}
 use Rattle.set_rules.specs.declared.state.Desk.{Desk}
 use Rattle.set_rules.specs.declared.state.LineSet.{LineSet}
 use Rattle.set_rules.specs.declared.state.Answer.{Answer}
-use Rattle.changes.specs.Changes.{Gives}
 
 pub nothing-sent : (ss : List Send) → sendsAny ss ≡ false → ss ≡ []
 nothing-sent [] h = refl

@@ -3,11 +3,11 @@
 use Prim.Native.Nat.{ℕ, _≤_, _<_}
 use mathlib.Core.List.{List}
 use mathlib.Core.Bool.{Bool, true, false, false≢true}
-use mathlib.Core.Path.{_≡_, refl, sym, _∙_}
+use mathlib.Core.Path.{_≡_, refl, sym}
 use native.Mathlib.Omega.{arith}
-use lib.Dec.{eqb, leb, ltb}
+use lib.Dec.{eqb, leb}
 use lib.ListN.{length}
-use borrow.Author.Tests.{leb-true, eqb-true, ltb-true, ltb-false, ne-eqb}
+use borrow.Author.Tests.{leb-true, eqb-true}
 use Rattle.laws.proofs.Tests.{both}
 use Rattle.laws.proofs.Each.{_▹_}
 use Rattle.laws.proofs.Table.{pick-each}

@@ -9,30 +9,29 @@ use lib.Dec.{eqb, ltb}
 use lib.ListN.{length, getD}
 use borrow.Author.Tests.{eqb-true, eqb-false, ltb-true, ne-eqb}
 use Rattle.laws.proofs.Lists.{at-taken}
-use Rattle.telegram.specs.Telegram.{readTelegram, over}
+use Rattle.telegram.specs.Telegram.{readTelegram}
 use Rattle.channel.specs.declared.state.Channel.{Channel}
 use Rattle.set_rules.specs.State.{noChannel, channelsOf, placeOf}
 use Rattle.set_rules.specs.Entries.{readEntry, telegramIn}
-use Rattle.set_rules.specs.Refusals.{isKind, firstOf}
-use Rattle.set_rules.specs.Feeds.{answerOf, outcomeOf, stepOf}
+use Rattle.set_rules.specs.Refusals.{firstOf}
+use Rattle.set_rules.specs.Feeds.{Gives, outcomeOf, stepOf}
 use Rattle.set_rules.specs.declared.state.Desk.{Desk}
 use Rattle.set_rules.specs.declared.state.Entry.{Entry}
 use Rattle.set_rules.specs.declared.state.LineSet.{LineSet}
 use Rattle.set_rules.specs.declared.state.Answer.{Answer}
 use Rattle.changes.specs.Asking.{seen, early, askedFor, unless, askedOf, namedIn}
-use Rattle.changes.specs.Changes.{Gives, stored, Stands, Asks, AnswersTo}
+use Rattle.changes.specs.Changes.{stored, Stands, Asks, AnswersTo}
 use Rattle.changes.specs.declared.request.Asked.{Asked}
 use Rattle.changes.specs.declared.request.Asked.the-variants.{Refusal, OnLine}
 use Rattle.changes.specs.declared.change.Change.{Change}
 use Rattle.changes.proofs.Changing.{gives-as}
-use Rattle.line_set.proofs.Seeking.{at-taken}
 use Rattle.line_set.proofs.Lengths.{kind-range}
 
 -- what a step has to show, by the outcome of the entry
 pub step-gives : (s : LineSet) (e b : List ℕ) {r : Answer} {a : List ℕ} → Gives (outcomeOf s e (readEntry e) (length b)) r b a
-    → (r ≡ answerOf (stepOf s e (length b))) × (a ≡ over (stepOf s e (length b) .bytes) b)
+    → Gives (stepOf s e (length b)) r b a
 unfolding stepOf
-step-gives s e b g = (g .answer, g .bytes)
+step-gives s e b g = g
 
 -- a refusal is not what asks for the line
 not-refused : (n : ℕ) (a : Asked) → unless n a ≡ OnLine → (n ≡ 0) × (a ≡ OnLine)
@@ -81,7 +80,7 @@ pub finished : (s : LineSet) (e b : List ℕ) (x : Entry) (q : Asked) (code coun
     → count ≡ length (channelsOf s) → i ≡ placeOf code (channelsOf s) → place ≡ cond (ltb i count) i 0 → getD (s .channels) place noChannel ≡ c
     → (x .kind ≡ 7 → ⊥) → (s .planned && eqb (x .kind) 6) ≡ false → (s .planned && eqb (x .kind) 8) ≡ false
     → AnswersTo (s .desks) (s .size .desks) x q (ltb i count) c r b a
-    → (stored s place r ≡ answerOf (stepOf s e (length b))) × (a ≡ over (stepOf s e (length b) .bytes) b)
+    → Gives (stepOf s e (length b)) (stored s place r) b a
 finished s e b x q code count i place c is-x is-q is-code is-count is-i is-place at k7 k6 k8 m =
     let found = ltb i count in
     let here : found ≡ true → place ≡ i = λ h. is-place ∙ rw h refl in

@@ -2,14 +2,12 @@
 -- Assumes nothing.
 use Prim.Native.Nat.{ℕ, suc, _+_, _*_, _≤_, _<_}
 use mathlib.Core.List.{List, [], _∷_, _++_, append-assoc}
-use mathlib.Core.Bool.{Bool, true, false, false≢true}
 use mathlib.Core.Path.{_≡_, refl, sym, ap, subst, _∙_}
 use native.Mathlib.Nat.{zero-add}
 use native.Mathlib.Numerals.{add-one}
 use native.Mathlib.Omega.{arith}
 use lib.ListN.{length, take, drop, getD, set, drop-of-length-le}
 use lib.Seq.{drop-cons, take-suc, set-at, getD-at, set-getD, length-take-le}
-use borrow.Author.Tests.{eqb-true}
 use Rattle.laws.proofs.Lists.{take-count, drop-count}
 use Rattle.channel.specs.State.{holderPlace}
 use Rattle.line_rules.specs.Rules.{Context, Step, tick, happens}
@@ -23,7 +21,6 @@ use Rattle.records.proofs.Writing.{Split}
 use Rattle.set_rules.specs.Records.{Delivery, delivered, toEach, recordsOf, spaceOf}
 use Rattle.set_rules.specs.SetRules.{contextOf, movedIn, sentIn, nextsOf, sendsOf}
 use Rattle.set_rules.specs.declared.state.Desk.{Desk}
-use Rattle.line_set.proofs.Seeking.{take-count, drop-count}
 
 space-append : (vs ws : List Delivery) → spaceOf (vs ++ ws) ≡ spaceOf vs + spaceOf ws
 unfolding spaceOf

@@ -12,13 +12,12 @@ ghost use mathlib.Core.Bool.{false};
 ghost use Prim.Native.Nat.{_+_, _≤_};
 ghost use lib.ListN.{length};
 ghost use Rattle.channel.specs.declared.state.Event.the-variants.{Tick};
-ghost use Rattle.records.specs.Emitting.{written};
+ghost use Rattle.records.specs.Emitting.{PutAt};
 ghost use Rattle.set_rules.specs.State.{channelsOf};
 ghost use Rattle.set_rules.specs.Records.{recordsOf, spaceOf};
 ghost use Rattle.set_rules.specs.SetRules.{sentIn, sendsOf, onTick, onHandover};
-ghost use Rattle.set_rules.specs.Feeds.{emit};
+ghost use Rattle.set_rules.specs.Feeds.{Gives, emit};
 ghost use Rattle.set_rules.specs.declared.state.LineSet.{LineSet};
-ghost use Rattle.changes.specs.Changes.{Gives};
 
 // The space that an event on one channel takes. Most channels are at rest, and then nothing is built.
 fn space_in(desks: [Desk; 4], n: u8, event: Event, c: Channel) -> usize
@@ -37,7 +36,7 @@ fn space_in(desks: [Desk; 4], n: u8, event: Event, c: Channel) -> usize
 // Writes what an event on one channel sends.
 fn put_in(buffer: &mut [u8], at: usize, desks: [Desk; 4], n: u8, event: Event, c: Channel) -> usize
     requires { ⌜ at + length (recordsOf desks (sentIn desks n event c)) ≤ length (now buffer) ⌝ }
-    ensures { λ r. ⌜ (r ≡ at + length (recordsOf desks (sentIn desks n event c))) × (now (buffer .exit) ≡ written (now (buffer .entry)) at (recordsOf desks (sentIn desks n event c))) ⌝ }
+    ensures { λ r. ⌜ PutAt at (recordsOf desks (sentIn desks n event c)) r (now (buffer .entry)) (now (buffer .exit)) ⌝ }
 {
     if !lines::sends_any(event, c) {
         return at;
@@ -69,7 +68,7 @@ fn space_all(set: LineSet, event: Event) -> usize
 // Writes what an event on all channels sends.
 fn put_all(set: LineSet, event: Event, buffer: &mut [u8]) -> usize
     requires { ⌜ length (recordsOf (set .desks) (sendsOf (set .desks) (set .size .desks) event (channelsOf set))) ≤ length (now buffer) ⌝ }
-    ensures { λ r. ⌜ (r ≡ length (recordsOf (set .desks) (sendsOf (set .desks) (set .size .desks) event (channelsOf set)))) × (now (buffer .exit) ≡ written (now (buffer .entry)) 0 (recordsOf (set .desks) (sendsOf (set .desks) (set .size .desks) event (channelsOf set)))) ⌝ }
+    ensures { λ r. ⌜ PutAt 0 (recordsOf (set .desks) (sendsOf (set .desks) (set .size .desks) event (channelsOf set))) r (now (buffer .entry)) (now (buffer .exit)) ⌝ }
 {
     let desks = set.desks;
     let n = set.size.desks;
@@ -136,7 +135,7 @@ pub fn tick(set: LineSet, buffer: &mut [u8]) -> Answer
     if buffer.len() < need {
         return answer::refuse(set, 16);
     }
-    let end = put_all(set, Event::Tick, buffer);
+    put_all(set, Event::Tick, buffer);
     Answer {
         set: after,
         count: need,
@@ -151,7 +150,7 @@ pub fn hand_over(set: LineSet, buffer: &mut [u8]) -> Answer
     if buffer.len() < need {
         return answer::refuse(set, 16);
     }
-    let end = put_all(set, Event::Handover, buffer);
+    put_all(set, Event::Handover, buffer);
     let new = LineSet::new();
     Answer {
         set: new,

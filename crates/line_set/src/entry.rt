@@ -4,16 +4,14 @@ use super::places;
 use super::plan;
 use set_rules::Answer;
 use set_rules::LineSet;
-ghost use mathlib.Core.Path.{_≡_};
 ghost use lib.ListN.{length};
-ghost use Rattle.telegram.specs.Telegram.{over};
-ghost use Rattle.set_rules.specs.Feeds.{answerOf, stepOf};
+ghost use Rattle.set_rules.specs.Feeds.{Gives, stepOf};
 
 // An entry of any bytes, before any set, with a buffer of any length, ends with the answer that the rules give. An entry
 // about one channel or one desk is taken here, with one exit, and what it calls gets the desks and the channel alone: each
 // function that takes the set copies it.
 pub fn step(mut set: LineSet, entry: &[u8], buffer: &mut [u8]) -> Answer
-    ensures { λ r. ⌜ (r ≡ answerOf (stepOf set (now (entry .entry)) (length (now (buffer .entry))))) × (now (buffer .exit) ≡ over (stepOf set (now (entry .entry)) (length (now (buffer .entry))) .bytes) (now (buffer .entry))) ⌝ }
+    ensures { λ r. ⌜ Gives (stepOf set (now (entry .entry)) (length (now (buffer .entry)))) r (now (buffer .entry)) (now (buffer .exit)) ⌝ }
 {
     let x = entries::read_entry(entry);
     if x.kind == 7 {

@@ -3,18 +3,11 @@ use super::answer;
 use records::Body;
 use set_rules::Answer;
 use set_rules::LineSet;
-ghost use mathlib.Core.Path.{_≡_};
-ghost use lib.ListN.{length};
-ghost use mathlib.Core.List.{List};
-ghost use Prim.Native.Nat.{ℕ};
-ghost use Rattle.set_rules.specs.Entries.{planIn};
-ghost use Rattle.set_rules.specs.Feeds.{outcomeOf};
-ghost use Rattle.set_rules.specs.declared.state.Entry.{Entry};
-ghost use Rattle.changes.specs.Changes.{Gives};
+ghost use Rattle.line_set.specs.Plans.{PlanGives};
 
 // An entry that is a plan, by the bytes of the plan.
 pub fn plan(set: LineSet, bytes: &[u8], buffer: &mut [u8]) -> Answer
-    ensures { λ r. ⌜ ((e : List ℕ) (x : Entry) → x .refusal ≡ 0 → x .kind ≡ 7 → planIn e ≡ now (bytes .entry) → Gives (outcomeOf set e x (length (now (buffer .entry)))) r (now (buffer .entry)) (now (buffer .exit))) ⌝ }
+    ensures { λ r. ⌜ PlanGives set (now (bytes .entry)) r (now (buffer .entry)) (now (buffer .exit)) ⌝ }
 {
     if set.planned {
         return answer::refuse(set, 5);
@@ -30,7 +23,7 @@ pub fn plan(set: LineSet, bytes: &[u8], buffer: &mut [u8]) -> Answer
     if buffer.len() < need {
         return answer::refuse(set, 16);
     }
-    let end = records::put_to(buffer, 0, desks, recipients, Body::TimeRequest);
+    records::put_to(buffer, 0, desks, recipients, Body::TimeRequest);
     Answer {
         set: next,
         count: need,

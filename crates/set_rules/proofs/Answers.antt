@@ -10,8 +10,7 @@ use lib.Count.{onesIn}
 use lib.Dec.{eqb, leb}
 use lib.ListN.{length, length-append, getD}
 use borrow.Author.Tests.{eqb-true, eqb-false, eq-eqb}
-use Rattle.telegram.specs.Telegram.{telegramOf, sizeOf, readTelegram}
-use Rattle.telegram.specs.declared.message.Message.{Message}
+use Rattle.telegram.specs.Telegram.{readTelegram}
 use Rattle.laws.specs.Each.{Each}
 use Rattle.laws.proofs.Each.{_▹_, each-append}
 use Rattle.telegram.proofs.Kept.{length-telegram}
@@ -27,8 +26,8 @@ use Rattle.set_rules.specs.Entries.{readEntry, telegramIn}
 use Rattle.laws.specs.Table.{pick}
 use Rattle.set_rules.specs.Refusals.{askedIn, refusalOf}
 use Rattle.set_rules.specs.Records.{Delivery, delivered, recordFor, recordSize, toEach, recordsOf, spaceOf}
-use Rattle.set_rules.specs.SetRules.{Effect, movedIn, sentIn, onChannel, sendsOf, onTick, onHandover, onRequest, ways, accepted}
-use Rattle.set_rules.specs.Feeds.{Outcome, Item, refuse, emit, outcomeOf, stepOf, stepBy, run, after}
+use Rattle.set_rules.specs.SetRules.{movedIn, sentIn, onChannel, sendsOf, onTick, onHandover, onRequest, ways, accepted}
+use Rattle.set_rules.specs.Feeds.{Item, outcomeOf, stepOf, stepBy, run, after}
 use Rattle.set_rules.specs.Promises.{Refused, Counted, Renewed}
 use Rattle.set_rules.specs.declared.state.Desk.{Desk}
 use Rattle.set_rules.specs.declared.state.LineSet.{LineSet}

@@ -2,19 +2,18 @@
 -- Assumes nothing.
 use Prim.Native.Nat.{ℕ, zero, suc, _+_, _-_, _*_, _^_, _≤_, _<_}
 use mathlib.Core.List.{List, [], _∷_}
-use mathlib.Core.Bool.{Bool, true, false, _&&_, _||_, not, cond, false≢true}
+use mathlib.Core.Bool.{Bool, true, false, _&&_, not, cond, false≢true}
 use mathlib.Core.Path.{_≡_, refl, sym, ap, _∙_}
 use native.Mathlib.Omega.{arith}
 use native.Mathlib.Nat.{pow-le-pow-right}
-use lib.Dec.{eqb, leb, ltb}
-use lib.ListN.{length, length-take, take, drop, getD, set, replicate}
+use lib.Dec.{eqb, leb}
+use lib.ListN.{length, length-take, take, drop, getD, replicate}
 use borrow.Author.Tests.{leb-true, le-leb, eqb-true, eq-eqb}
 use Rattle.laws.specs.Each.{Each}
 use Rattle.laws.proofs.Each.{_▹_, each-at, each-set, each-take, each-drop, each-append, each-same}
 use Rattle.laws.proofs.Tests.{both}
 use Rattle.fields.specs.Digits.{allDigits, valueOf, digitsIn}
 use Rattle.fields.specs.Fields.{allIn, between}
-use Rattle.fields.specs.declared.digits.Digits.{Digits}
 use Rattle.fields.specs.declared.digits.Digits.the-variants.{Value, Malformed}
 use Rattle.telegram.specs.Telegram.{num, inRange, readTelegram, telegramOf}
 use Rattle.telegram.specs.declared.message.Message.{Message}
@@ -23,19 +22,18 @@ use Rattle.telegram.specs.declared.message.Reading.the-variants.{Telegram}
 use Rattle.fields.proofs.Kept.{value-below}
 use Rattle.telegram.proofs.Kept.{reads-back}
 use Rattle.channel.specs.State.{only, firstDesks, holderPlace}
-use Rattle.line_rules.specs.Rules.{Step, happens}
 use Rattle.line_rules.specs.Notices.{Content, telegram, contact, contentFor}
 use Rattle.channel.specs.declared.state.Channel.{Channel}
 use Rattle.channel.specs.declared.state.Event.{Event}
-use Rattle.channel.specs.declared.state.Event.the-variants.{Capture, Release, Cut, PressOn, PressOff, MobileOn, MobileOff, Tick, Handover}
+use Rattle.channel.specs.declared.state.Event.the-variants.{Capture, Release, Cut, PressOn, PressOff, MobileOff, Tick, Handover}
 use Rattle.channel.specs.declared.state.Send.{Send}
-use Rattle.set_rules.specs.State.{newSet, noDesk, noChannel, deskAt, channelsOf, placeIn, channelAt, timeTold, answered, withLink}
+use Rattle.set_rules.specs.State.{newSet, noDesk, noChannel, channelsOf, placeIn, channelAt, timeTold, answered, withLink}
 use Rattle.set_rules.specs.Entries.{byte, word, readEntry, measured, bad, payload, payloadOk, sizeOk, telegramIn, planIn}
-use Rattle.set_rules.specs.Plan.{deskOk, desksOk, desksIn, channelsOk, channelsIn, deskCount, desksPart, channelCount, channelsPart, distinct, planOk, filled, setOf}
+use Rattle.set_rules.specs.Plan.{deskOk, desksOk, desksIn, channelsOk, channelsIn, deskCount, desksPart, channelCount, channelsPart, distinct, planOk, setOf}
 use Rattle.set_rules.specs.Refusals.{askedIn, refusalOf}
-use Rattle.set_rules.specs.Records.{Delivery, delivered}
-use Rattle.set_rules.specs.SetRules.{Effect, effect, telegramTo, contextOf, movedIn, nextsOf, sendsOf, onChannel, byHolder, onTick, onHandover, onPlan, onRequest, ways, timeTaken, answerTaken, numberIn, accepted}
-use Rattle.set_rules.specs.Feeds.{Item, stepOf, stepBy, after}
+use Rattle.set_rules.specs.Records.{delivered}
+use Rattle.set_rules.specs.SetRules.{Effect, telegramTo, contextOf, movedIn, nextsOf, sendsOf, onChannel, onTick, onHandover, onPlan, onRequest, ways, timeTaken, answerTaken, numberIn, accepted}
+use Rattle.set_rules.specs.Feeds.{Item, stepBy, after}
 use Rattle.set_rules.specs.Invariant.{NumberOk, ChannelOk, DeskOk, SetOk}
 use Rattle.set_rules.specs.Promises.{Reads, AllRead, Readable, InRange}
 use Rattle.set_rules.specs.declared.state.Link.{Link}
@@ -47,7 +45,7 @@ use Rattle.set_rules.specs.declared.state.Request.the-variants.{TellsTim
 use Rattle.laws.proofs.Table.{pick-each}
 use Rattle.set_rules.proofs.Answers.{refused, accepted-after}
 use Rattle.set_rules.proofs.Rows.{no-row}
-use Rattle.set_rules.proofs.Ranges.{ContentOk, NoticeOk, in-range, SendsOk, StepOk, EventOk, happens-ok}
+use Rattle.set_rules.proofs.Ranges.{ContentOk, in-range, SendsOk, EventOk, happens-ok}
 
 -- ---- what fills the arrays
 
@@ -91,7 +89,7 @@ record EffectOk (f : Effect) : Type 0 where
   sent-ok : AllRead (f .desks) (f .sent)
 
 module _ (s : LineSet) (ok : SetOk s) where
-  own-ok : (d : ℕ) → NumberOk (deskAt s d .number)
+  own-ok : (d : ℕ) → NumberOk (getD (s .desks) d noDesk .number)
   own-ok d = desk-ok (s .desks) (ok .desks-ok) d .number-ok
 
   at-ok : (ch : ℕ) → ChannelOk (channelAt s ch)

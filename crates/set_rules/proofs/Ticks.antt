@@ -1,35 +1,32 @@
 -- The marked case of the ticks: nine send nothing, the tenth ends the call, the 130th releases.
 -- Assumes nothing.
-use Prim.Native.Nat.{ℕ, zero, suc, _+_, _<_}
+use Prim.Native.Nat.{ℕ, zero, suc, _+_}
 use mathlib.Core.List.{List, [], _∷_, _++_, map, append-nil}
-use mathlib.Core.Bool.{Bool, true, false, _&&_, _||_, not, cond, false≢true}
+use mathlib.Core.Bool.{Bool, true, false, _&&_, not, cond, false≢true}
 use mathlib.Core.Path.{_≡_, refl, sym, ap, _∙_}
 use native.Mathlib.Omega.{arith}
 use lib.Dec.{eqb, leb, ltb}
-use lib.ListN.{length, replicate, take, drop, set}
-use borrow.Author.Tests.{eqb-true, eq-eqb, ltb-true}
+use lib.ListN.{length, replicate}
 use Rattle.laws.proofs.Tests.{by-test}
-use Rattle.channel.specs.State.{isIn, holderPlace}
-use Rattle.line_rules.specs.Rules.{Context, Step, to, happens, pressOff, tick, tickIdle, tickQuiet, tickRelease, endOf, freedSends}
+use Rattle.channel.specs.State.{isIn}
+use Rattle.line_rules.specs.Rules.{happens, pressOff, tick, tickIdle, tickQuiet, tickRelease, endOf, freedSends}
 use Rattle.line_rules.specs.Promises.{quietly}
 use Rattle.channel.specs.declared.state.Holder.the-variants.{Held}
 use Rattle.channel.specs.declared.state.Call.{Call}
 use Rattle.channel.specs.declared.state.Arrival.the-variants.{Absent}
 use Rattle.channel.specs.declared.state.Channel.{Channel}
-use Rattle.channel.specs.declared.state.Event.the-variants.{PressOn, PressOff, Tick}
 use Rattle.channel.specs.declared.state.Send.{Send}
-use Rattle.set_rules.specs.State.{channelsOf, placeOf, placeIn, hasChannel, channelAt, listenersOf, withChannels}
+use Rattle.set_rules.specs.State.{placeOf, hasChannel, channelAt}
 use Rattle.set_rules.specs.Entries.{readEntry}
 use Rattle.laws.specs.Table.{pick}
 use Rattle.set_rules.specs.Refusals.{firstOf, refusalOf}
 use Rattle.set_rules.specs.Records.{Delivery, delivered, recordsOf, spaceOf}
-use Rattle.set_rules.specs.SetRules.{Effect, contextOf, nextsOf, sendsOf, onChannel, byHolder, onTick, accepted}
-use Rattle.set_rules.specs.Feeds.{Outcome, Item, emit, outcomeOf, stepOf, stepBy, run}
+use Rattle.set_rules.specs.SetRules.{contextOf, nextsOf, sendsOf, onChannel, onTick, accepted}
+use Rattle.set_rules.specs.Feeds.{Outcome, outcomeOf, stepOf, stepBy, run}
 use Rattle.set_rules.specs.Promises.{entryOf, ticks, AllAccepted, Ticked}
 use Rattle.set_rules.proofs.Answers.{accepted-after}
 use Rattle.set_rules.proofs.Rows.{no-row}
 use Rattle.set_rules.specs.declared.state.Desk.{Desk}
-use Rattle.set_rules.specs.declared.state.Size.{Size}
 use Rattle.set_rules.specs.declared.state.LineSet.{LineSet}
 use Rattle.set_rules.specs.declared.state.Entry.{Entry}
 

@@ -1,9 +1,9 @@
 -- The timers run exactly when they should, and a press is the holder's, in every state that a feed brings about.
 -- Assumes nothing.
-use Prim.Native.Nat.{ℕ, zero, suc, _-_, _≤_, _<_}
-use mathlib.Core.List.{List, [], _∷_, _++_}
-use mathlib.Core.Bool.{Bool, true, false, _&&_, _||_, not, cond, false≢true, and-false}
-use mathlib.Core.Path.{_≡_, refl, sym, ap, _∙_}
+use Prim.Native.Nat.{ℕ, zero, suc, _-_, _≤_}
+use mathlib.Core.List.{List, [], _∷_}
+use mathlib.Core.Bool.{Bool, true, false, _&&_, not, cond, false≢true}
+use mathlib.Core.Path.{_≡_, refl, sym, _∙_}
 use native.Mathlib.Omega.{arith}
 use lib.Dec.{eqb, leb, ltb}
 use lib.ListN.{length, drop}
@@ -15,7 +15,7 @@ use Rattle.laws.proofs.Each.{_▹_, each-at, each-set, each-take, each-drop, ea
 use Rattle.laws.proofs.Tests.{both}
 use Rattle.telegram.specs.declared.message.Number.{Number}
 use Rattle.channel.specs.State.{isHeld, holderPlace, heldBy, isPresent}
-use Rattle.line_rules.specs.Rules.{Context, Step, step, happens, capture, captureAt, cut, release, pressOn, pressOff, mobileOn, mobileOff, tick, tickIdle, tickQuiet, tickRelease, handover, isOpen, openedBy, pressCall, mobileCall, mobileRecipients}
+use Rattle.line_rules.specs.Rules.{Context, Step, happens, capture, captureAt, cut, release, pressOn, pressOff, mobileOn, mobileOff, tick, tickIdle, tickQuiet, tickRelease, handover, isOpen, openedBy, mobileRecipients}
 use Rattle.channel.specs.declared.state.Holder.{Holder}
 use Rattle.channel.specs.declared.state.Holder.the-variants.{Nobody, Held}
 use Rattle.channel.specs.declared.state.Call.{Call}
@@ -27,7 +27,7 @@ use Rattle.set_rules.specs.State.{newSet, noChannel, channelsOf, placeIn
 use Rattle.set_rules.specs.Entries.{byte, readEntry, measured, bad, payload, payloadOk, sizeOk, telegramIn, planIn}
 use Rattle.set_rules.specs.Plan.{channelsIn, channelCount, channelsPart, setOf}
 use Rattle.set_rules.specs.Refusals.{askedIn, refusalOf}
-use Rattle.set_rules.specs.SetRules.{Effect, contextOf, nextsOf, onChannel, onTick, onHandover, onPlan, onRequest, numberIn, ways, accepted}
+use Rattle.set_rules.specs.SetRules.{contextOf, nextsOf, onChannel, onTick, onHandover, onPlan, onRequest, numberIn, ways, accepted}
 use Rattle.set_rules.specs.Feeds.{Item, stepBy, after}
 use Rattle.set_rules.specs.Invariant.{Timed}
 use Rattle.set_rules.specs.Promises.{TimersRun}

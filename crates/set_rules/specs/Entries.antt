@@ -1,6 +1,6 @@
 -- 01, Entries and records: what an entry's bytes ask for, or refusal 1, 2 or 3.
 use Prim.Native.Nat.{ℕ, _+_, _*_}
-use mathlib.Core.List.{List, [], _∷_, _++_}
+use mathlib.Core.List.{List, [], _∷_}
 use mathlib.Core.Bool.{Bool, true, false, _&&_, cond}
 use lib.Dec.{eqb, leb}
 use lib.ListN.{length, take, drop, getD}

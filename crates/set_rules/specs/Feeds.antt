@@ -1,8 +1,10 @@
 -- One entry, and feeds: "a list of entries of any bytes, refused ones included, each with a lent buffer".
-use Prim.Native.Nat.{ℕ, zero, suc, _+_, _*_}
+use Prim.Native.Nat.{ℕ, zero, suc, _+_}
 use mathlib.Core.List.{List, [], _∷_, _++_}
-use mathlib.Core.Bool.{Bool, true, false, cond}
+use mathlib.Core.Bool.{cond}
+use mathlib.Core.Path.{_≡_}
 use lib.Dec.{eqb, leb}
+use Rattle.telegram.specs.Telegram.{over}
 use lib.ListN.{length, take, drop, getD}
 use Rattle.set_rules.specs.Entries.{readEntry, word}
 use Rattle.set_rules.specs.Refusals.{refusalOf}
@@ -23,9 +25,17 @@ pub record Outcome : Type 0 where
 abbrev pub answerOf : Outcome → Answer
 answerOf o = record { set = o .after; count = o .count; refusal = o .refusal }
 
+-- an answer and a buffer after, as an outcome gives them; "bytes past the last record stay as they were"
+pub record Gives (o : Outcome) (r : Answer) (before after : List ℕ) : Type 0 where
+  pub answer : r ≡ answerOf o
+  pub bytes : after ≡ over (o .bytes) before
+
 -- the same where the set is lent: the set after is where the set lay
 abbrev pub replyOf : Outcome → Reply
 replyOf o = record { count = o .count; refusal = o .refusal }
+
+abbrev pub GivesIn : Outcome → Reply → LineSet → List ℕ → List ℕ → Type 0
+GivesIn o r set before after = (r ≡ replyOf o) × ((set ≡ o .after) × (after ≡ over (o .bytes) before))
 
 -- "Each refusal returns count 0 and leaves set and buffer untouched."
 abbrev pub refuse : ℕ → LineSet → Outcome

@@ -1,7 +1,6 @@
 -- What is promised of the set, as statements about the definitions. `proofs/` proves each under the name given with it.
 use Prim.Native.Nat.{ℕ, _+_}
 use mathlib.Core.List.{List, [], _∷_, _++_, map}
-use mathlib.Core.Bool.{true, false}
 use mathlib.Core.Path.{_≡_}
 use lib.ListN.{length, take, drop, replicate, getD}
 use Rattle.fields.specs.Digits.{digitsOf}

@@ -119,7 +119,7 @@ abbrev pub isCaller : Digits → Bool
 isCaller (Value v) = not (eqb v 0)
 isCaller Malformed = false
 
--- the desk of an entry
+-- "a desk by its place in the plan from 0"
 abbrev pub deskOf : Lookup → Entry → Desk
 deskOf v x = getD (v .desks) (x .desk) noDesk
 

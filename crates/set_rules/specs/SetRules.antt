@@ -1,7 +1,7 @@
 -- 01, Line rules: what an accepted entry does to the set, and what it sends.
 use Prim.Native.Nat.{ℕ}
 use mathlib.Core.List.{List, [], _∷_, _++_}
-use mathlib.Core.Bool.{Bool, true, false, cond}
+use mathlib.Core.Bool.{cond}
 use lib.Dec.{eqb}
 use lib.ListN.{drop, getD, set}
 use Rattle.fields.specs.declared.digits.Digits.{Digits}

@@ -1,15 +1,14 @@
 -- The set: desks with their links, channels, and whether there is a plan.
 use Prim.Native.Nat.{ℕ, suc, _+_}
-use mathlib.Core.List.{List, [], _∷_, _++_}
-use mathlib.Core.Bool.{Bool, true, false, _&&_, cond}
-use lib.Dec.{eqb, ltb, leb}
-use lib.ListN.{length, take, drop, getD, replicate, set}
+use mathlib.Core.List.{List, [], _∷_}
+use mathlib.Core.Bool.{Bool, false, _&&_, cond}
+use lib.Dec.{eqb, ltb}
+use lib.ListN.{length, take, getD, replicate, set}
 use Rattle.telegram.specs.Telegram.{num}
 use Rattle.channel.specs.State.{freeChannel, only, isIn}
 use Rattle.channel.specs.declared.state.Channel.{Channel}
 use Rattle.set_rules.specs.declared.state.Link.{Link}
 use Rattle.set_rules.specs.declared.state.Desk.{Desk}
-use Rattle.set_rules.specs.declared.state.Size.{Size}
 use Rattle.set_rules.specs.declared.state.LineSet.{LineSet}
 
 -- "Each desk's link goes through three phases"
@@ -36,13 +35,6 @@ abbrev pub newSet : LineSet
 newSet = record { channels = replicate 32 noChannel; desks = replicate 4 noDesk; size = record { desks = 0; channels = 0 }; planned = false }
 
 -- ---- what the plan has
-
--- "a desk by its place in the plan from 0"
-abbrev pub hasDesk : LineSet → ℕ → Bool
-hasDesk s d = ltb d (s .size .desks)
-
-abbrev pub deskAt : LineSet → ℕ → Desk
-deskAt s d = getD (s .desks) d noDesk
 
 -- the channels of the plan
 abbrev pub channelsOf : LineSet → List Channel

@@ -1,7 +1,7 @@
 -- 01, Telegrams: the table, what bytes read as, and how a message is written.
 use Prim.Native.Nat.{ℕ, _+_}
 use mathlib.Core.List.{List, [], _∷_, _++_}
-use mathlib.Core.Bool.{Bool, true, false, _&&_, cond}
+use mathlib.Core.Bool.{Bool, _&&_, cond}
 use lib.Dec.{leb, eqb}
 use lib.ListN.{length, take, drop, getD}
 use Rattle.fields.specs.Digits.{digitsOf, allDigits, valueOf}

@@ -4,13 +4,13 @@ use Prim.Native.Nat.{ℕ, _≤_}
 use mathlib.Core.List.{List, [], _∷_}
 use mathlib.Core.Bool.{false, cond}
 use mathlib.Core.Path.{_≡_, refl, sym, ap}
-use lib.Dec.{eqb, leb, lit≤}
+use lib.Dec.{eqb, lit≤}
 use lib.ListN.{length}
 use borrow.Author.Tests.{eqb-true, le-leb, ne-eqb}
 use Rattle.fields.specs.Fields.{bodyOk, valuesIn, padded, noFields}
 use Rattle.laws.specs.Each.{Each}
 use Rattle.laws.proofs.Tests.{by-test}
-use Rattle.telegram.specs.Telegram.{Row, table, timeNotice, operationAnswer, timeRequest, baseArrival, operationRequest, call, callerNotice, captureRequest, captureReply, captureState, readRow, readIn}
+use Rattle.telegram.specs.Telegram.{Row, table, readIn}
 use Rattle.telegram_reader.specs.Steps.{knownIn, bodyIn, messageIn}
 use Rattle.telegram.specs.declared.message.Message.the-variants.{TimeRequest}
 use Rattle.telegram.specs.declared.message.Reading.{Reading}

@@ -7,7 +7,6 @@ use native.Mathlib.Omega.{arith}
 use lib.Dec.{leb}
 use Rattle.telegram.specs.Telegram.{sizeOf, sendable, writeAnswer}
 use Rattle.telegram.specs.declared.message.Message.{Message}
-use Rattle.telegram.specs.declared.message.Written.{Written}
 use Rattle.telegram.specs.declared.message.Written.the-variants.{Count, OutOfRange, NoRoom}
 
 -- the writer counts the telegram's bytes

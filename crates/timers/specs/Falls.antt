@@ -1,5 +1,5 @@
 -- A tick as the code goes about it, by what it does to the timers. That it is the rule is `tick-falling` (`proofs/Ticks.antt`).
-use Prim.Native.Nat.{ℕ, _-_}
+use Prim.Native.Nat.{_-_}
 use mathlib.Core.List.{[]}
 use mathlib.Core.Bool.{cond}
 use lib.Dec.{leb, ltb}

@@ -1,6 +1,6 @@
 -- `changes::change::change_of` meets its contract: what is refused by now, a telegram, or a line entry.
 -- Assumes nothing.
-use mathlib.Core.Path.{_≡_, subst}
+use mathlib.Core.Path.{subst}
 use denote.Ref.{now}
 use lib.ListN.{length}
 use Rattle.changes.specs.Changes.{setWith, Asks}

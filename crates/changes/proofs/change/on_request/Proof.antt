@@ -1,16 +1,14 @@
 -- `changes::change::on_request` meets its contract: it is judged, and then goes by what is asked.
 -- Assumes nothing.
-use Prim.Native.Nat.{ℕ}
-use mathlib.Core.Bool.{Bool, true}
-use mathlib.Core.List.{List, []}
-use mathlib.Core.Path.{_≡_, refl, sym, ap, ap₂, subst, _∙_}
+use mathlib.Core.List.{[]}
+use mathlib.Core.Path.{sym, ap, _∙_}
 use native.Mathlib.Omega.{arith}
 use denote.Ref.{now}
 use lib.ListN.{length}
 use Rattle.channel.specs.declared.state.Event.{Event}
 use Rattle.records.proofs.Writing.{written-none}
 use Rattle.set_rules.specs.Records.{recordsOf, spaceOf}
-use Rattle.set_rules.specs.SetRules.{Effect, effect, onChannel, onRequest}
+use Rattle.set_rules.specs.SetRules.{effect, onChannel, onRequest}
 use Rattle.set_rules.specs.Feeds.{emit}
 use Rattle.set_rules.specs.declared.state.Desk.{Desk}
 use Rattle.set_rules.specs.declared.state.LineSet.{LineSet}

@@ -1,6 +1,6 @@
 -- `changes::judge::judge_request` meets its contract: the phase, and then by what is asked.
 -- Assumes nothing.
-use mathlib.Core.Path.{refl, sym, _∙_}
+use mathlib.Core.Path.{refl}
 use borrow.Author.Tests.{eq-eqb, ne-eqb}
 use borrow.Author.Needs.{needs}
 use Rattle.changes.proofs.judge.judge_request.Statement.{statement}

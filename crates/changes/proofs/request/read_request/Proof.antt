@@ -1,7 +1,6 @@
 -- `changes::request::read_request` meets its contract: what does not read, a wrong code, and what a message asks.
 -- Assumes nothing.
 use mathlib.Core.Path.{refl, sym, ap, _∙_}
-use mathlib.Core.List.{List}
 use borrow.Author.Tests.{eq-eqb, ne-eqb}
 use Rattle.telegram.specs.declared.message.Reading.{Reading}
 use Rattle.changes.specs.Asking.{telegramAsked}

@@ -3,8 +3,6 @@
 use Prim.Native.Nat.{ℕ}
 use mathlib.Core.Path.{_≡_, refl, sym, ap, _∙_}
 use native.Mathlib.Omega.{arith}
-use Rattle.telegram.specs.declared.message.Reading.the-variants.{Telegram, Refused}
-use Rattle.changes.specs.Asking.{telegramAsked}
 use Rattle.changes.specs.declared.request.Asked.the-variants.{Refusal}
 use borrow.Author.Needs.{needs}
 use Rattle.changes.proofs.request.unread_request.Statement.{statement}

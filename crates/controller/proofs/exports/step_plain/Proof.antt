@@ -1,7 +1,7 @@
 -- `controller::exports::step_plain` meets its contract: the step, between the two conversions; a refused one keeps the numbers.
 -- Assumes nothing.
 use mathlib.Core.Bool.{Bool, cond}
-use mathlib.Core.Path.{_≡_, sym, ap, _∙_}
+use mathlib.Core.Path.{sym, ap, _∙_}
 use lib.Dec.{eqb}
 use lib.ListN.{length}
 use borrow.Author.Tests.{eq-eqb, ne-eqb}
@@ -30,8 +30,8 @@ returns c =
     let f = c .before .before .before .before .step .ensures in
     let i = c .before .before .before .before .before .before .set-in .ensures in (
       ap (λ (t : Bool). record { set = cond t (plainOf (a .set)) p; count = a .count; refusal = a .refusal }) (sym (ne-eqb (a .refusal) 0 (c .if1 .taken)))
-          ∙ ap (kept p) (f .0 ∙ ap (λ (s : LineSet). answerOf (stepOf s e (length b))) i),
-      f .1 ∙ ap (λ (s : LineSet). over (stepOf s e (length b) .bytes) b) i,
+          ∙ ap (kept p) (f .answer ∙ ap (λ (s : LineSet). answerOf (stepOf s e (length b))) i),
+      f .bytes ∙ ap (λ (s : LineSet). over (stepOf s e (length b) .bytes) b) i,
     )
 
 returns-2 : tie.Need-returns-2
@@ -45,8 +45,8 @@ returns-2 c =
     let i = c .before .before .before .before .before .before .before .before .set-in .ensures in (
       ap (λ (q : PlainSet). record { set = q; count = a .count; refusal = a .refusal }) (c .plain-of .ensures)
           ∙ (ap (λ (t : Bool). record { set = cond t (plainOf (a .set)) p; count = a .count; refusal = a .refusal }) (sym (eq-eqb (a .refusal) 0 (c .before .before .if1 .left)))
-          ∙ ap (kept p) (f .0 ∙ ap (λ (s : LineSet). answerOf (stepOf s e (length b))) i)),
-      f .1 ∙ ap (λ (s : LineSet). over (stepOf s e (length b) .bytes) b) i,
+          ∙ ap (kept p) (f .answer ∙ ap (λ (s : LineSet). answerOf (stepOf s e (length b))) i)),
+      f .bytes ∙ ap (λ (s : LineSet). over (stepOf s e (length b) .bytes) b) i,
     )
 
 pub step-plain-spec : {M : Type 1} → statement M

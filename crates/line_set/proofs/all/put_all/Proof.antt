@@ -3,17 +3,13 @@
 use Prim.Native.Nat.{ℕ, _+_, _-_, _≤_, _<_}
 use mathlib.Core.List.{List}
 use mathlib.Core.Path.{_≡_, sym, ap, subst, _∙_}
-use native.Mathlib.Nat.{zero-add}
 use native.Mathlib.Omega.{arith}
 use lib.ListN.{length, drop, set, length-map}
 use Rattle.laws.proofs.Lists.{at-taken}
 use Rattle.channel.specs.declared.state.Channel.{Channel}
-use Rattle.channel.specs.declared.state.Event.{Event}
 use Rattle.set_rules.specs.State.{noChannel, channelsOf}
-use Rattle.set_rules.specs.declared.state.LineSet.{LineSet}
 use borrow.Author.Needs.{needs}
 use Rattle.line_set.proofs.Seeking.{count-is}
-use denote.Ref.{now}
 use Rattle.records.specs.Emitting.{written}
 use Rattle.records.proofs.Writing.{Writing, start, next, room, done}
 use Rattle.set_rules.specs.Records.{recordsOf}
@@ -69,7 +65,7 @@ returns c =
     let n : length (s .channels) ≡ 32 = sym (length-map (s .channels) _) ∙ (st .good .0 .1 .1 .0 .1 .0 .1) in
     let e = c .before .before .count-of .ensures .0 ∙ count-is (s .channels) (s .size .channels) n in
     let d = done (l .inv .0) (put-end (s .desks) (s .size .desks) (st .args .event) (channelsOf s) (l .i) (omega (arith, e, c .loop-test .left))) in
-    (d .0 ∙ zero-add _, d .1)
+    d
 
 pub put-all-spec : {M : Type 1} → statement M
 put-all-spec =

@@ -8,7 +8,7 @@ use Rattle.laws.proofs.Lists.{at-taken}
 use Rattle.channel.specs.declared.state.Channel.{Channel}
 use Rattle.set_rules.specs.State.{noChannel, channelsOf}
 use borrow.Author.Needs.{needs}
-use Rattle.line_set.proofs.Seeking.{count-is, at-taken}
+use Rattle.line_set.proofs.Seeking.{count-is}
 use Rattle.set_rules.specs.Records.{spaceOf}
 use Rattle.set_rules.specs.SetRules.{sentIn}
 use Rattle.line_set.proofs.Turns.{Summed, sum-first, sum-next, sum-last}

@@ -1,13 +1,12 @@
 -- `line_set::all::tick` meets its contract: where no timer ran out nothing is sent, and else the records of the set before are written.
 -- Assumes nothing.
 use Prim.Native.Nat.{ℕ}
-use mathlib.Core.Path.{_≡_, sym, ap₂, _∙_}
+use mathlib.Core.Path.{sym, ap₂}
 use native.Mathlib.Omega.{arith}
 use denote.Ref.{now}
 use borrow.Author.Tests.{not-true}
 use Rattle.channel.specs.declared.state.Event.the-variants.{Tick}
 use Rattle.set_rules.specs.State.{channelsOf}
-use Rattle.set_rules.specs.Records.{spaceOf}
 use Rattle.set_rules.specs.SetRules.{sendsOf, onTick}
 use Rattle.set_rules.proofs.Answers.{even-all, space-length}
 use Rattle.set_rules.specs.declared.state.LineSet.{LineSet}

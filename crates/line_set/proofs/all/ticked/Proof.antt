@@ -3,9 +3,9 @@ use mathlib.Core.List.{List}
 use mathlib.Core.Bool.{Bool, false, false≢true}
 use mathlib.Core.Path.{_≡_, refl, sym, ap, subst, _∙_}
 use native.Mathlib.Omega.{arith}
-use lib.ListN.{length, set, getD, length-map}
+use lib.ListN.{length, set, length-map}
 use Rattle.laws.proofs.Lists.{at-taken}
-use Rattle.line_rules.specs.Rules.{Context, tick}
+use Rattle.line_rules.specs.Rules.{tick}
 use Rattle.timers.proofs.Ticks.{silent-neither, silent-quiet, silent-release}
 use Rattle.channel.specs.declared.state.Channel.{Channel}
 use Rattle.channel.specs.declared.state.Event.the-variants.{Tick}
@@ -13,9 +13,8 @@ use Rattle.set_rules.specs.State.{noChannel, channelsOf, withChannels}
 use Rattle.set_rules.specs.SetRules.{onTick}
 use Rattle.set_rules.specs.declared.state.LineSet.{LineSet}
 use mathlib.Core.Logic.{inl, inr}
-use Rattle.set_rules.specs.Records.{spaceOf}
 use borrow.Author.Needs.{needs}
-use Rattle.line_set.proofs.Seeking.{count-is, at-taken}
+use Rattle.line_set.proofs.Seeking.{count-is}
 use Rattle.line_set.proofs.Turns.{Summed, Ticked, sum-first, sum-silent, sum-last, fall-next, tick-first, tick-at, tick-next, tick-kept, tick-last}
 use Rattle.line_set.proofs.all.ticked.Statement.{statement}
 use Rattle.line_set.proofs.all.ticked.Tie as tie

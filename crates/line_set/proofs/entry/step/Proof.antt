@@ -21,7 +21,7 @@ use Rattle.line_set.proofs.WholeSet.{tick-step, handover-step}
 use Rattle.changes.proofs.Changing.{gives-as}
 use Rattle.line_set.proofs.Lengths.{long-enough, kind-read}
 use Rattle.line_set.proofs.OneStep.{step-gives, finished}
-use Rattle.line_set.proofs.Seeking.{Sought, sought-first, sought-next, sought-found, sought-last, count-is, at-taken}
+use Rattle.line_set.proofs.Seeking.{Sought, sought-first, sought-next, sought-found, sought-last, count-is}
 use Rattle.line_set.proofs.entry.step.Statement.{statement}
 use Rattle.line_set.proofs.entry.step.Tie as tie
 

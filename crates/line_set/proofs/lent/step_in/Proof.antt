@@ -39,8 +39,7 @@ use denote.Triple.Table.{entered, cited}
 use denote.Triple.Walked.{says, Stays, stay-ref, stay-none-slice, gave-slice, walkOf, AllGo, goes-none-slice, goes-gave-slice, goes-ref, Walks, ends-at, walked, walk-meets}
 use denote.Exit.{yes}
 use lib.ListN.{length}
-use Rattle.telegram.specs.Telegram.{over}
-use Rattle.set_rules.specs.Feeds.{answerOf, stepOf}
+use Rattle.set_rules.specs.Feeds.{Gives, stepOf}
 use Rattle.set_rules.specs.declared.state.LineSet.{LineSet}
 use Rattle.set_rules.specs.declared.state.Answer.{Answer}
 use Rattle.set_rules.specs.declared.state.Reply.{Reply}
@@ -70,7 +69,7 @@ stayed = (stay-ref (0 ∷ []) tt (plain (λ _. T.the-row)), (stay-none-slice (1 
 
 -- what `step` ensures, of its result and the buffer's last list
 abbrev Says : LineSet → List ℕ → List ℕ → Answer → List ℕ → Type 0
-Says h e y r z = (r ≡ answerOf (stepOf h e (length y))) × (z ≡ over (stepOf h e (length y) .bytes) y)
+Says h e y r z = Gives (stepOf h e (length y)) r y z
 
 -- a set's machine value
 abbrev mach : LineSet → Val
@@ -126,7 +125,7 @@ module _ {M : Type 1} (𝓤 : URA M) (H : Heap 𝓤) (A : Atoms 𝓤) (W : Given
       → ent 𝓤 (⋆ 𝓤 H A (‵ (fobs γ (T.the-row .coded .code (r .set))) ∷ ‵ (fbor κ (Body (mem (T.the-row)) b o γ)) ∷ ‵ (flft κ q) ∷ (‵ (flft κ₁ q₁) ⊛ ‵ (flft κ₂ q₂) ⊛ ‵ ftrue) ∷ ‵ (finally u8 γ′ zs) ∷ ‵ Own ∷ [])) (Post (replied r))
   exits r zs f n s l =
       qed W (‵ (fobs γ (T.the-row .coded .code (r .set))) ∷ ‵ (fbor κ (Body (mem (T.the-row)) b o γ)) ∷ ‵ (flft κ q) ∷ (‵ (flft κ₁ q₁) ⊛ ‵ (flft κ₂ q₂) ⊛ ‵ ftrue) ∷ ‵ (finally u8 γ′ zs) ∷ ‵ Own ∷ []) ∵
-      suffices ! _ (ends-at 𝓤 H A step-in.ended stayed (step-in.clauses 𝓤 H A at-mem run) W (((κ, (κ₁, (κ₂, tt))), (q, (q₁, (q₂, tt))), tt, x, at), tt) (replied r) (replyIn r) (r .set, (tt, (zs, tt))) (tt, (tt, (l, tt)))) $ says ! (ap replyIn (s .0), (ap (λ (a : Answer). a .set) (s .0), s .1)) $
+      suffices ! _ (ends-at 𝓤 H A step-in.ended stayed (step-in.clauses 𝓤 H A at-mem run) W (((κ, (κ₁, (κ₂, tt))), (q, (q₁, (q₂, tt))), tt, x, at), tt) (replied r) (replyIn r) (r .set, (tt, (zs, tt))) (tt, (tt, (l, tt)))) $ says ! (ap replyIn (s .answer), (ap (λ (a : Answer). a .set) (s .answer), s .bytes)) $
       move ! (2 ∷ 3 ∷ []) $ join ! $ frame ! $ feqI ! (List Val) (vptr b o ∷ []) (vptr b o ∷ []) refl $ fjoin3 ! $
       nothing ! $ move ! (2 ∷ 0 ∷ []) $ fjoin ! $ move ! (2 ∷ 0 ∷ []) $ fjoin ! $ move ! (1 ∷ 0 ∷ []) $ fjoin ! $
       owned ! TR.the-row (Is TR.the-row) ((LL.makes TR.the-type TR′.the-plain) 𝓤 H A) (replyIn r) _ (reply-is r f n) $ move ! (1 ∷ 0 ∷ []) $ done !
