@@ -6,7 +6,8 @@ use mathlib.Core.Bool.{true, false}
 use mathlib.Core.Path.{_≡_}
 use lib.ListN.{length}
 use Rattle.fields.specs.Digits.{digitsOf, allDigits, valueOf, digitsIn}
-use Rattle.fields.specs.Fields.{Field, bodyOk, valuesIn, allIn, bytesOf, bodySize, padded, fieldsIn}
+use Rattle.fields.specs.Fields.{Field, bodyOk, valuesIn, allIn, bytesOf, bodySize}
+use Rattle.fields.specs.Held.{padded, fieldsIn}
 use Rattle.fields.specs.declared.digits.Digits.the-variants.{Value, Malformed}
 use Rattle.fields.specs.declared.lists.Fields.{Fields}
 

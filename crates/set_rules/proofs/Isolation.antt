@@ -30,7 +30,7 @@ use Rattle.line_rules.proofs.Veil.{none-in, veil, hide, hide-twice, hideNotice,
 use Rattle.set_rules.specs.State.{newSet, noChannel, placeOf, placeIn, channelAt, listenersOf, withChannels}
 use Rattle.laws.specs.Table.{pick}
 use Rattle.set_rules.specs.Entries.{byte, measured, readEntry, sizeOk, asks, bad, mobileIn, telegramIn}
-use Rattle.set_rules.specs.Refusals.{Lookup, lookup, Test, askedIn, namedBy, mayAsk, firstOf, refusalOf, isCaller, table}
+use Rattle.set_rules.specs.Refusals.{Lookup, lookup, Test, askedIn, namedBy, firstOf, refusalOf, isCaller, table}
 use Rattle.set_rules.specs.Records.{Delivery, delivered, recordSize, recordsOf, spaceOf}
 use Rattle.set_rules.specs.SetRules.{Effect, effect, timeTaken, answerTaken, contextOf, onChannel, byHolder, movedIn, nextsOf, sendsOf, onTick, onHandover, onRequest, numberIn, ways, accepted}
 use Rattle.set_rules.specs.Feeds.{Item, outcomeOf, stepOf, stepBy, ofDesk, received, Seen, seenOf, views}
@@ -111,19 +111,10 @@ module _ (B : ℕ) where
   rows-hide v e r x [] w = refl
   rows-hide v e r x (row ∷ rows) w = rw (w .0, rows-hide v e r x rows (w .1))
 
-  ask-hide : (v : Lookup) (d : ℕ) (q : Request) → mayAsk (hideLookup v) d q ≡ mayAsk v d q
-  ask-hide v d TellsTime = refl
-  ask-hide v d (TellsState a) = refl
-  ask-hide v d (AsksChannel ch n o) = refl
-  ask-hide v d Foreign = refl
-
-  -- only 12 and 15 look at more of the channel than its holder, press and entitled desks
+  -- only 15 looks at more of the channel than its holder, press and entitled desks
   blind : (v : Lookup) (e : List ℕ) (r : Reading) (x : Entry) → Each (Blind v e r x) table
   blind v e r x =
-      refl ▹ refl ▹ refl ▹ refl ▹ refl ▹ refl ▹ refl ▹ refl
-      ▹ (rw (ask-hide v (x .desk) (askedIn r)))
-      ▹ refl
-      ▹ refl
+      refl ▹ refl ▹ refl ▹ refl ▹ refl ▹ refl ▹ refl ▹ refl ▹ refl ▹ refl ▹ refl
       ▹ (rw (present-hide B (v .channel .arrival)))
       ▹ tt
 

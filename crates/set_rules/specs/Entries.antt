@@ -48,15 +48,8 @@ payload k e =
 -- "payload size wrong (kind 1 needs a desk byte; kind 7 is judged at 6)", by kind; the four bytes before the payload count here
 abbrev pub sizes : List (ℕ × (ℕ → Bool))
 sizes =
-    (1, λ n. leb 5 n)
-    ∷ (2, λ n. eqb n 7)
-    ∷ (3, λ n. eqb n 6)
-    ∷ (4, λ n. eqb n 14)
-    ∷ (5, λ n. eqb n 5)
-    ∷ (6, λ n. eqb n 4)
-    ∷ (7, λ n. true)
-    ∷ (8, λ n. eqb n 4)
-    ∷ []
+    (1, λ n. leb 5 n) ∷ (2, λ n. eqb n 7) ∷ (3, λ n. eqb n 6) ∷ (4, λ n. eqb n 14) ∷ (5, λ n. eqb n 5) ∷ (6, λ n. eqb n 4)
+    ∷ (7, λ n. true) ∷ (8, λ n. eqb n 4) ∷ []
 
 abbrev pub sizeOk : ℕ → ℕ → Bool
 sizeOk k n = pick k (λ n. false) sizes n

@@ -7,6 +7,7 @@ use lib.ListN.{getD}
 use Rattle.fields.specs.declared.digits.Digits.{Digits}
 use Rattle.fields.specs.declared.digits.Digits.the-variants.{Value, Malformed}
 use Rattle.telegram.specs.Telegram.{readTelegram, rowOf}
+use Rattle.telegram.specs.declared.message.Number.{Number}
 use Rattle.telegram.specs.declared.message.Message.{Message}
 use Rattle.telegram.specs.declared.message.Message.the-variants.{TimeNotice, OperationAnswer, TimeRequest, BaseArrival, OperationRequest, Call, CallerNotice, CaptureRequest, CaptureReply, CaptureState}
 use Rattle.telegram.specs.declared.message.Reading.{Reading}
@@ -87,12 +88,16 @@ phaseOf (TellsState a) = 2
 phaseOf (AsksChannel ch n o) = 3
 phaseOf Foreign = 3
 
+-- what hangs on the channel and the number of a 550600, and z for the other telegrams
+abbrev pub ofCapture : {A : Type 0} → A → (ℕ → Number → A) → Request → A
+ofCapture z f TellsTime = z
+ofCapture z f (TellsState a) = z
+ofCapture z f (AsksChannel ch n o) = f ch n
+ofCapture z f Foreign = z
+
 -- the channel that an entry names; a telegram about the link names none
 abbrev pub channelIn : Request → ℕ
-channelIn TellsTime = 0
-channelIn (TellsState a) = 0
-channelIn (AsksChannel ch n o) = ch
-channelIn Foreign = 0
+channelIn = ofCapture 0 (λ ch n. ch)
 
 abbrev pub namedBy : Request → Entry → ℕ
 namedBy q x = cond (isKind 1 x) (channelIn q) (x .channel)
@@ -100,19 +105,6 @@ namedBy q x = cond (isKind 1 x) (channelIn q) (x .channel)
 -- "channel not in the plan, or desk not entitled"
 abbrev pub mayUse : Lookup → ℕ → Bool
 mayUse v d = v .found && isIn d (v .channel .entitled)
-
-abbrev pub mayAsk : Lookup → ℕ → Request → Bool
-mayAsk v d TellsTime = true
-mayAsk v d (TellsState a) = true
-mayAsk v d (AsksChannel ch n o) = mayUse v d
-mayAsk v d Foreign = true
-
--- "550600 number not the desk's own"
-abbrev pub isOwn : ℕ → Request → Bool
-isOwn own TellsTime = true
-isOwn own (TellsState a) = true
-isOwn own (AsksChannel ch n o) = eqb (n .digits) own
-isOwn own Foreign = true
 
 -- a mobile's number: "not 8 digits or the none-number"
 abbrev pub isCaller : Digits → Bool
@@ -160,7 +152,7 @@ row11 v e r x = fromDesk x && not (eqb (deskOf v x .link .phase) (cond (isKind 1
 -- "channel not in the plan, or desk not entitled"
 abbrev pub row12 : Test
 row12 v e r x =
-    cond (isKind 1 x) (not (mayAsk v (x .desk) (askedIn r)))
+    cond (isKind 1 x) (not (ofCapture true (λ ch n. mayUse v (x .desk)) (askedIn r)))
     (cond (isKind 2 x || isKind 3 x) (not (mayUse v (x .desk)))
     (cond (isKind 4 x || isKind 5 x) (not (v .found))
     false))
@@ -168,7 +160,7 @@ row12 v e r x =
 -- "550600 number not the desk's own; mobile's number not 8 digits or the none-number"
 abbrev pub row13 : Test
 row13 v e r x =
-    cond (isKind 1 x) (not (isOwn (deskOf v x .number .digits) (askedIn r)))
+    cond (isKind 1 x) (not (ofCapture true (λ ch n. eqb (n .digits) (deskOf v x .number .digits)) (askedIn r)))
     (cond (isKind 4 x) (not (isCaller (x .number)))
     false)
 

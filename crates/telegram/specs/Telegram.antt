@@ -22,6 +22,9 @@ pub record Row : Type 0 where
   pub body : List Field
   pub make : List ℕ → Message
 
+abbrev pub row : ℕ → List Field → (List ℕ → Message) → Row
+row i fs f = record { id = i; body = fs; make = f }
+
 abbrev pub num : ℕ → Number
 num n = record { digits = n }
 
@@ -31,107 +34,54 @@ nth v i = getD v i 0
 
 -- "550411 time notice: YYYYMMDDhhmmss"
 abbrev pub timeNotice : Row
-timeNotice = record {
-  id = 550411;
-  body = year ∷ month ∷ day ∷ hour ∷ minute ∷ second ∷ [];
-  make = λ v.
-      TimeNotice
-      (record { year = nth v 0; month = nth v 1; day = nth v 2; hour = nth v 3; minute = nth v 4; second = nth v 5 });
-}
+timeNotice = row 550411 (year ∷ month ∷ day ∷ hour ∷ minute ∷ second ∷ [])
+    (λ v. TimeNotice (record { year = nth v 0; month = nth v 1; day = nth v 2; hour = nth v 3; minute = nth v 4; second = nth v 5 }))
 
 -- "550421 operation answer: system, state"
 abbrev pub operationAnswer : Row
-operationAnswer = record {
-  id = 550421;
-  body = flag ∷ flag ∷ [];
-  make = λ v. OperationAnswer (record { system = nth v 0; state = nth v 1 });
-}
+operationAnswer = row 550421 (flag ∷ flag ∷ []) (λ v. OperationAnswer (record { system = nth v 0; state = nth v 1 }))
 
 -- "550461 time request: none"
 abbrev pub timeRequest : Row
-timeRequest = record { id = 550461; body = []; make = λ v. TimeRequest }
+timeRequest = row 550461 [] (λ v. TimeRequest)
 
 -- "550464 base arrival: CH, base, type, number, order"
 abbrev pub baseArrival : Row
-baseArrival = record {
-  id = 550464;
-  body = channel ∷ base ∷ callType ∷ number ∷ flag ∷ [];
-  make = λ v.
-      BaseArrival
-      (record { channel = nth v 0; base = nth v 1; kind = nth v 2; number = num (nth v 3); order = nth v 4 });
-}
+baseArrival = row 550464 (channel ∷ base ∷ callType ∷ number ∷ flag ∷ [])
+    (λ v. BaseArrival (record { channel = nth v 0; base = nth v 1; kind = nth v 2; number = num (nth v 3); order = nth v 4 }))
 
 -- "550471 operation request: none"
 abbrev pub operationRequest : Row
-operationRequest = record { id = 550471; body = []; make = λ v. OperationRequest }
+operationRequest = row 550471 [] (λ v. OperationRequest)
 
 -- "550473 call start/end: CH, base, type, media, direction, start, reason, len, source, len, destination"
 abbrev pub call : Row
-call = record {
-  id = 550473;
-  body = channel ∷ base ∷ callType ∷ flag ∷ direction ∷ flag ∷ reason ∷ len ∷ number ∷ len ∷ number ∷ [];
-  make = λ v.
-      Call
-      (record {
-        channel = nth v 0;
-        base = nth v 1;
-        kind = nth v 2;
-        media = nth v 3;
-        direction = nth v 4;
-        start = nth v 5;
-        reason = nth v 6;
-        source = num (nth v 8);
-        destination = num (nth v 10);
-      });
-}
+call = row 550473 (channel ∷ base ∷ callType ∷ flag ∷ direction ∷ flag ∷ reason ∷ len ∷ number ∷ len ∷ number ∷ [])
+    (λ v. Call (record { channel = nth v 0; base = nth v 1; kind = nth v 2; media = nth v 3; direction = nth v 4; start = nth v 5; reason = nth v 6; source = num (nth v 8); destination = num (nth v 10) }))
 
 -- "550477 caller notice: CH, base, type, direction, number, order"
 abbrev pub callerNotice : Row
-callerNotice = record {
-  id = 550477;
-  body = channel ∷ base ∷ callType ∷ direction ∷ number ∷ flag ∷ [];
-  make = λ v.
-      CallerNotice
-      (record { channel = nth v 0; base = nth v 1; kind = nth v 2; direction = nth v 3; number = num (nth v 4); order = nth v 5 });
-}
+callerNotice = row 550477 (channel ∷ base ∷ callType ∷ direction ∷ number ∷ flag ∷ [])
+    (λ v. CallerNotice (record { channel = nth v 0; base = nth v 1; kind = nth v 2; direction = nth v 3; number = num (nth v 4); order = nth v 5 }))
 
 -- "550600 capture request: CH, len, number, order"
 abbrev pub captureRequest : Row
-captureRequest = record {
-  id = 550600;
-  body = channel ∷ len ∷ number ∷ flag ∷ [];
-  make = λ v. CaptureRequest (record { channel = nth v 0; number = num (nth v 2); order = nth v 3 });
-}
+captureRequest = row 550600 (channel ∷ len ∷ number ∷ flag ∷ [])
+    (λ v. CaptureRequest (record { channel = nth v 0; number = num (nth v 2); order = nth v 3 }))
 
 -- "550650 capture reply: CH, result"
 abbrev pub captureReply : Row
-captureReply = record {
-  id = 550650;
-  body = channel ∷ flag ∷ [];
-  make = λ v. CaptureReply (record { channel = nth v 0; result = nth v 1 });
-}
+captureReply = row 550650 (channel ∷ flag ∷ []) (λ v. CaptureReply (record { channel = nth v 0; result = nth v 1 }))
 
 -- "550651 capture state: CH, len, number, state"
 abbrev pub captureState : Row
-captureState = record {
-  id = 550651;
-  body = channel ∷ len ∷ number ∷ flag ∷ [];
-  make = λ v. CaptureState (record { channel = nth v 0; number = num (nth v 2); state = nth v 3 });
-}
+captureState = row 550651 (channel ∷ len ∷ number ∷ flag ∷ [])
+    (λ v. CaptureState (record { channel = nth v 0; number = num (nth v 2); state = nth v 3 }))
 
 abbrev pub table : List Row
 table =
-    timeNotice
-    ∷ operationAnswer
-    ∷ timeRequest
-    ∷ baseArrival
-    ∷ operationRequest
-    ∷ call
-    ∷ callerNotice
-    ∷ captureRequest
-    ∷ captureReply
-    ∷ captureState
-    ∷ []
+    timeNotice ∷ operationAnswer ∷ timeRequest ∷ baseArrival ∷ operationRequest ∷ call ∷ callerNotice ∷ captureRequest ∷ captureReply
+    ∷ captureState ∷ []
 
 -- ---- reading
 

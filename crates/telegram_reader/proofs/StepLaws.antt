@@ -7,7 +7,8 @@ use mathlib.Core.Path.{_≡_, refl, sym, ap}
 use lib.Dec.{eqb, lit≤}
 use lib.ListN.{length}
 use borrow.Author.Tests.{eqb-true, le-leb, ne-eqb}
-use Rattle.fields.specs.Fields.{bodyOk, valuesIn, padded, noFields}
+use Rattle.fields.specs.Fields.{bodyOk, valuesIn}
+use Rattle.fields.specs.Held.{padded, noFields}
 use Rattle.laws.specs.Each.{Each}
 use Rattle.laws.proofs.Tests.{by-test}
 use Rattle.telegram.specs.Telegram.{Row, table, readIn}

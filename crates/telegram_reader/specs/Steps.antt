@@ -5,7 +5,7 @@ use Prim.Native.Nat.{ℕ}
 use mathlib.Core.List.{List, [], _∷_}
 use mathlib.Core.Bool.{Bool, false, _||_, cond}
 use lib.Dec.{eqb}
-use Rattle.fields.specs.Fields.{noFields, fieldsIn}
+use Rattle.fields.specs.Held.{noFields, fieldsIn}
 use Rattle.fields.specs.declared.lists.Fields.{Fields}
 use Rattle.telegram.specs.Telegram.{Row, nth, heading, headerOk}
 use Rattle.telegram.specs.declared.message.Message.{Message}
