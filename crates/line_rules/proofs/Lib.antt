@@ -1,2 +1,5 @@
 pub mod Veil
 pub mod Traps
+pub mod Ranges
+pub mod Timers
+pub mod Kept

@@ -1,6 +1,6 @@
 -- What is promised of the line rules of one channel, for every channel and every context. `proofs/` proves each under the
 -- name given with it. Most of them shut out one of 01's traps on the bench.
-use Prim.Native.Nat.{ℕ, zero, suc}
+use Prim.Native.Nat.{ℕ, zero, suc, _≤_}
 use mathlib.Core.List.{List, [], _∷_, _++_, map}
 use mathlib.Core.Bool.{true, false}
 use mathlib.Core.Path.{_≡_}
@@ -8,9 +8,11 @@ use lib.Dec.{eqb, ltb}
 use lib.ListN.{replicate}
 use Rattle.laws.specs.Each.{Each}
 use Rattle.telegram.specs.declared.message.Number.{Number}
-use Rattle.channel.specs.State.{only, holderPlace}
-use Rattle.line_rules.specs.Rules.{Context, quietTime, releaseTime, cut, pressOff, mobileOn, mobileOff, tick, endOf, freedSends, happens}
+use Rattle.channel.specs.State.{only, isIn, freeChannel, isPresent, holderPlace}
+use Rattle.line_rules.specs.Rules.{Context, quietTime, releaseTime, cut, pressOff, mobileOn, mobileOff, tick, endOf, freedSends, mobileRecipients, happens}
 use Rattle.line_rules.specs.Notices.{contentFor}
+use Rattle.line_rules.specs.Veil.{hide, hideArrival, hideStep}
+use Rattle.line_rules.specs.Invariant.{NumberOk, ChannelOk, Fits, NoticeOk, StepOk, ContentOk}
 use Rattle.channel.specs.declared.state.Holder.the-variants.{Held}
 use Rattle.channel.specs.declared.state.Call.{Call}
 use Rattle.channel.specs.declared.state.Arrival.{Arrival}
@@ -105,3 +107,34 @@ abbrev pub TenAndAHundredAndThirty : Type 0
 TenAndAHundredAndThirty =
     (x : Context) (c : Channel) (d : ℕ) → c .holder ≡ Held d → c .arrival ≡ Absent
     → sentByTicks 130 x (pressOff x c .next) ≡ replicate 9 [] ++ (endOf 3 (c .call) ∷ replicate 119 [] ++ (freedSends x c ∷ []))
+
+-- ---- What holds of every channel
+
+-- A free channel of a plan is so (`Kept.free-is-ok`).
+abbrev pub FreeIsOk : Type 0
+FreeIsOk = (code entitled : ℕ) → code ≤ 99 → ChannelOk (freeChannel code entitled)
+
+-- Whatever happens on a channel, it stays so, and what it sends is in range (`Kept.stays-ok`).
+abbrev pub StaysOk : Type 0
+StaysOk = (v : Event) (x : Context) (c : Channel) → NumberOk (x .own) → Fits v c → ChannelOk c → StepOk (happens v x c)
+
+-- A notice in range is a telegram in range to every desk (`Kept.says-in-range`).
+abbrev pub SaysInRange : Type 0
+SaysInRange = (desk ch : ℕ) (n : Notice) → ch ≤ 99 → NoticeOk n → ContentOk (contentFor desk ch n)
+
+-- ---- What a desk B may see: what happens on a channel goes by what is left of it when numbers are hidden from B (`Kept`)
+
+abbrev pub HideTwice : Type 0
+HideTwice = (B : ℕ) (c : Channel) → hide B (hide B c) ≡ hide B c
+
+abbrev pub PresentHide : Type 0
+PresentHide = (B : ℕ) (a : Arrival) → isPresent (hideArrival B a) ≡ isPresent a
+
+abbrev pub HappensHide : Type 0
+HappensHide = (B : ℕ) (v : Event) (x : Context) (c : Channel) → hideStep B (happens v x (hide B c)) ≡ hideStep B (happens v x c)
+
+-- A mobile's number is hidden from B where B is not among its recipients.
+abbrev pub NumberHidden : Type 0
+NumberHidden =
+    (B : ℕ) (x : Context) (b : ℕ) (n n′ : Number) (c : Channel) → isIn B (mobileRecipients (c .holder) (x .listeners)) ≡ false
+    → hideStep B (mobileOn x b n c) ≡ hideStep B (mobileOn x b n′ c)

@@ -26,7 +26,8 @@ use Rattle.channel.specs.declared.state.Event.the-variants.{Capture, Release, C
 use Rattle.channel.specs.declared.state.Notice.{Notice}
 use Rattle.channel.specs.declared.state.Notice.the-variants.{PressAnswer, Incoming, BaseArrival, Call, CallerNotice, CaptureReply, CaptureState}
 use Rattle.channel.specs.declared.state.Send.{Send}
-use Rattle.line_rules.proofs.Veil.{none-in, veil, hide, hide-twice, hideNotice, hideSends, hideStep, present-hide, happens-hide, number-hidden}
+use Rattle.line_rules.specs.Veil.{veil, hide, hideNotice, hideSends, hideStep}
+use Rattle.line_rules.proofs.Kept.{hide-twice, present-hide, happens-hide, number-hidden}
 use Rattle.set_rules.specs.State.{newSet, noChannel, placeOf, placeIn, channelAt, listenersOf, withChannels}
 use Rattle.laws.specs.Table.{pick}
 use Rattle.set_rules.specs.Entries.{byte, measured, readEntry, sizeOk, asks, bad, mobileIn, telegramIn}
@@ -44,6 +45,12 @@ use Rattle.set_rules.specs.declared.state.Request.the-variants.{TellsTim
 use Rattle.laws.proofs.Each.{_▹_}
 use Rattle.laws.proofs.Table.{pick-matched}
 use Rattle.set_rules.proofs.Received.{AllLike, space-like, received-like, like-append}
+
+-- nobody is in the empty set
+none-in : (j : ℕ) → isIn j 0 ≡ false
+unfolding isIn
+none-in zero = refl
+none-in (suc j) = none-in j
 
 -- a desk is not in the set of another
 power-other : (B d : ℕ) → (d ≡ B → ⊥) → isIn B (2 ^ d) ≡ false

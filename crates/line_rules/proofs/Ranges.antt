@@ -1,22 +1,21 @@
--- What a channel in range sends is in range, and it stays in range.
+-- A channel in range stays in range, and so is what it sends.
 -- Assumes nothing.
 use Prim.Native.Nat.{ℕ, _-_, _^_, _≤_}
-use mathlib.Core.List.{List, [], _++_}
+use mathlib.Core.List.{[], _++_}
 use mathlib.Core.Bool.{Bool, true, false, cond}
 use mathlib.Core.Path.{_≡_, refl}
 use native.Mathlib.Omega.{arith}
 use lib.Dec.{eqb, leb, ltb}
 use borrow.Author.Tests.{le-leb, lt-ltb, leb-true}
-use Rattle.laws.specs.Each.{Each}
 use Rattle.laws.proofs.Each.{each-append}
 use Rattle.laws.proofs.Tests.{both, by-test, either}
 use Rattle.fields.specs.Fields.{allIn}
-use Rattle.telegram.specs.Telegram.{num, inRange}
+use Rattle.telegram.specs.Telegram.{num}
 use Rattle.telegram.specs.declared.message.Number.{Number}
 use Rattle.telegram.specs.declared.message.Message.the-variants.{CaptureState as State}
 use Rattle.channel.specs.State.{isHeld, heldBy, isPresent}
 use Rattle.line_rules.specs.Rules.{Context, Step, step, sentIf, happens, capture, captureAt, cut, release, pressOn, pressOff, mobileOn, mobileOff, tick, tickIdle, tickQuiet, tickRelease, handover, openedBy, openingSends, startOf, endOf, kindOf, pressOffSends, pressCall, mobileCall, mobileOffSends, freedSends, mobileRecipients}
-use Rattle.line_rules.specs.Notices.{Content, telegram, contact, contentFor}
+use Rattle.line_rules.specs.Notices.{telegram}
 use Rattle.channel.specs.declared.state.Holder.{Holder}
 use Rattle.channel.specs.declared.state.Holder.the-variants.{Nobody, Held}
 use Rattle.channel.specs.declared.state.Call.{Call}
@@ -26,21 +25,11 @@ use Rattle.channel.specs.declared.state.Arrival.the-variants.{Absent, Present}
 use Rattle.channel.specs.declared.state.Channel.{Channel}
 use Rattle.channel.specs.declared.state.Event.{Event}
 use Rattle.channel.specs.declared.state.Event.the-variants.{Capture, Release, Cut, PressOn, PressOff, MobileOn, MobileOff, Tick, Handover}
-use Rattle.channel.specs.declared.state.Notice.{Notice}
 use Rattle.channel.specs.declared.state.Notice.the-variants.{PressAnswer, Incoming, BaseArrival, Call as CallNotice, CallerNotice, CaptureReply, CaptureState}
-use Rattle.channel.specs.declared.state.Send.{Send}
-use Rattle.set_rules.specs.Invariant.{NumberOk, BaseOk, TalkOk, CallOk, ArrivalOk, ChannelOk}
+use Rattle.line_rules.specs.Invariant.{NumberOk, BaseOk, TalkOk, CallOk, ArrivalOk, InRange, Fits, NoticeOk, SendOk, SendsOk, ContentOk}
+use Rattle.line_rules.specs.Promises.{SaysInRange}
 
--- ---- notices in range, and their messages
-
-abbrev pub NoticeOk : Notice → Type 0
-NoticeOk (PressAnswer on) = Unit {0}
-NoticeOk (Incoming on) = Unit {0}
-NoticeOk (BaseArrival k b n o) = TalkOk k 2 b n × (o ≤ 1)
-NoticeOk (CallNotice k d b s t r) = TalkOk k d b s × (t ≤ 1) × (r ≤ 3)
-NoticeOk (CallerNotice k d b n o) = TalkOk k d b n × (o ≤ 1)
-NoticeOk (CaptureReply r) = r ≤ 1
-NoticeOk (CaptureState h n s) = NumberOk n × (s ≤ 1)
+-- ---- what a notice in range says
 
 below : (b : ℕ) → BaseOk b → ltb b (10 ^ 3) ≡ true
 below b h =
@@ -56,42 +45,38 @@ channel-in ch h = (lt-ltb ch (10 ^ 3) (omega arith), le-leb ch 99 h)
 digit-in : (v top : ℕ) → v ≤ top → top ≤ 9 → (ltb v (10 ^ 1) ≡ true) × (leb v top ≡ true)
 digit-in v top h k = (lt-ltb v (10 ^ 1) (omega arith), le-leb v top h)
 
-abbrev pub ContentOk : Content → Type 0
-ContentOk (telegram m) = inRange m ≡ true
-ContentOk (contact k ch on) = Unit {0}
-
 abbrev StateOk : ℕ → ℕ → Number → Type 0
 StateOk ch s n = ContentOk (telegram (State (record { channel = ch; number = n; state = s })))
 
-pub in-range : (d ch : ℕ) (n : Notice) → ch ≤ 99 → NoticeOk n → ContentOk (contentFor d ch n)
+pub says-in-range : SaysInRange
 unfolding allIn
-in-range d ch (PressAnswer on) h k = tt
-in-range d ch (Incoming on) h k = tt
-in-range d ch (BaseArrival kd b n o) h k =
+says-in-range d ch (PressAnswer on) h k = tt
+says-in-range d ch (Incoming on) h k = tt
+says-in-range d ch (BaseArrival kd b n o) h k =
     let t = k .0 in
     let c = channel-in ch h in
     let i = digit-in kd 3 (omega (arith, t .kind-is)) (omega arith) in
     let j = digit-in o 1 (k .1) (omega arith) in
     simp (c .0, c .1, below b (t .base-ok), t .base-ok, i .0, i .1, le-leb 1 kd (omega (arith, t .kind-is)), lt-ltb (n .digits) (10 ^ 8) (t .number-ok), j .0, j .1)
-in-range d ch (CallNotice kd di b s st r) h k =
+says-in-range d ch (CallNotice kd di b s st r) h k =
     let t = k .0 in
     let c = channel-in ch h in
     let i = digit-in kd 3 (omega (arith, t .kind-is)) (omega arith) in
     let w = digit-in di 2 (t .direction-high) (omega arith) in
     let j = digit-in st 1 (k .1) (omega arith) in
     simp (c .0, c .1, below b (t .base-ok), t .base-ok, i .0, i .1, le-leb 1 kd (omega (arith, t .kind-is)), w .0, w .1, le-leb 1 di (t .direction-low), j .0, j .1, lt-ltb r (10 ^ 2) (omega arith), le-leb r 3 (k .2), lt-ltb (s .digits) (10 ^ 8) (t .number-ok))
-in-range d ch (CallerNotice kd di b n o) h k =
+says-in-range d ch (CallerNotice kd di b n o) h k =
     let t = k .0 in
     let c = channel-in ch h in
     let i = digit-in kd 3 (omega (arith, t .kind-is)) (omega arith) in
     let w = digit-in di 2 (t .direction-high) (omega arith) in
     let j = digit-in o 1 (k .1) (omega arith) in
     simp (c .0, c .1, below b (t .base-ok), t .base-ok, i .0, i .1, le-leb 1 kd (omega (arith, t .kind-is)), w .0, w .1, le-leb 1 di (t .direction-low), lt-ltb (n .digits) (10 ^ 8) (t .number-ok), j .0, j .1)
-in-range d ch (CaptureReply r) h k =
+says-in-range d ch (CaptureReply r) h k =
     let c = channel-in ch h in
     let j = digit-in r 1 k (omega arith) in
     simp (c .0, c .1, j .0, j .1)
-in-range d ch (CaptureState h′ n s) h k =
+says-in-range d ch (CaptureState h′ n s) h k =
     let c = channel-in ch h in
     let j = digit-in s 1 (k .1) (omega arith) in
     let ok : (x : Number) → NumberOk x → StateOk ch s x = λ x b. simp (c .0, c .1, lt-ltb (x .digits) (10 ^ 8) b, j .0, j .1) in
@@ -99,29 +84,11 @@ in-range d ch (CaptureState h′ n s) h k =
 
 -- ---- what a rule sends, and the channel after it
 
-abbrev pub SendOk : Send → Type 0
-SendOk s = NoticeOk (s .notice)
-
-abbrev pub SendsOk : List Send → Type 0
-SendsOk = Each SendOk
-
-pub record StepOk (st : Step) : Type 0 where
-  pub next-ok : ChannelOk (st .next)
+pub record Ranged (st : Step) : Type 0 where
+  pub next-ok : InRange (st .next)
   pub sends-ok : SendsOk (st .sends)
 
--- an event in range
-abbrev pub EventOk : Event → Type 0
-EventOk (Capture d) = Unit {0}
-EventOk (Release d) = Unit {0}
-EventOk Cut = Unit {0}
-EventOk PressOn = Unit {0}
-EventOk PressOff = Unit {0}
-EventOk (MobileOn b n) = (b ≤ 29) × NumberOk n
-EventOk MobileOff = Unit {0}
-EventOk Tick = Unit {0}
-EventOk Handover = Unit {0}
-
-module _ (x : Context) (own : NumberOk (x .own)) (c : Channel) (ok : ChannelOk c) where
+module _ (x : Context) (own : NumberOk (x .own)) (c : Channel) (ok : InRange c) where
   -- the talk of the holder in a call
   kind-ok : (k : Call) → CallOk k → TalkOk (kindOf k) 1 999 (x .own)
   kind-ok Closed o = record { kind-is = refl; direction-low = omega arith; direction-high = omega arith; base-ok = refl; number-ok = own }
@@ -143,25 +110,25 @@ module _ (x : Context) (own : NumberOk (x .own)) (c : Channel) (ok : ChannelOk c
   freed-ok = ((own, omega arith), tt)
 
   -- a channel that has the code, call and arrival of c
-  kept : (c′ : Channel) → c′ .code ≡ c .code → c′ .call ≡ c .call → c′ .arrival ≡ c .arrival → ChannelOk c′
+  kept : (c′ : Channel) → c′ .code ≡ c .code → c′ .call ≡ c .call → c′ .arrival ≡ c .arrival → InRange c′
   kept c′ p q r = record { code-ok = rw p (ok .code-ok); call-ok = rw q (ok .call-ok); arrival-ok = rw r (ok .arrival-ok) }
 
-  plain-ok : StepOk (step c [])
+  plain-ok : Ranged (step c [])
   plain-ok = record { next-ok = ok; sends-ok = tt }
 
   reply-ok : (t : Bool) (d : ℕ) → NoticeOk (CaptureReply (cond t 0 1))
   reply-ok true d = omega arith
   reply-ok false d = omega arith
 
-  captureAt-ok : (h : Holder) (d : ℕ) → StepOk (captureAt h x d c)
+  captureAt-ok : (h : Holder) (d : ℕ) → Ranged (captureAt h x d c)
   captureAt-ok Nobody d = record { next-ok = kept _ refl refl refl; sends-ok = (omega arith, ((own, omega arith), tt)) }
   captureAt-ok (Held h) d = record { next-ok = ok; sends-ok = (reply-ok (eqb h d) d, tt) }
 
-  capture-ok : (d : ℕ) → StepOk (capture x d c)
+  capture-ok : (d : ℕ) → Ranged (capture x d c)
   unfolding capture
   capture-ok d = captureAt-ok (c .holder) d
 
-  cut-ok : StepOk (cut x c)
+  cut-ok : Ranged (cut x c)
   unfolding cut
   cut-ok = record {
     next-ok = record { code-ok = ok .code-ok; call-ok = tt; arrival-ok = ok .arrival-ok };
@@ -170,10 +137,10 @@ module _ (x : Context) (own : NumberOk (x .own)) (c : Channel) (ok : ChannelOk c
         (each-append SendOk (endOf 1 (c .call)) (freedSends x c) (end-ok 1 (omega arith) (c .call) (ok .call-ok)) freed-ok);
   }
 
-  release-ok : (d : ℕ) → StepOk (release x d c)
+  release-ok : (d : ℕ) → Ranged (release x d c)
   unfolding release
   release-ok d =
-      either StepOk (heldBy d (c .holder)) _ _
+      either Ranged (heldBy d (c .holder)) _ _
       (record { next-ok = cut-ok .next-ok; sends-ok = (omega arith, cut-ok .sends-ok) })
       (record { next-ok = ok; sends-ok = (omega arith, tt) })
 
@@ -193,14 +160,14 @@ module _ (x : Context) (own : NumberOk (x .own)) (c : Channel) (ok : ChannelOk c
   own-talk : TalkOk 1 1 999 (x .own)
   own-talk = kind-ok Closed tt
 
-  pressOn-ok : StepOk (pressOn x c)
+  pressOn-ok : Ranged (pressOn x c)
   unfolding pressOn
   pressOn-ok = record {
     next-ok = record { code-ok = ok .code-ok; call-ok = opened-ok (c .call) (pressCall x c) (ok .call-ok) own-talk; arrival-ok = ok .arrival-ok };
     sends-ok = (tt, each-append SendOk (openingSends (c .call) (pressCall x c)) _ (opening-ok (c .call) (pressCall x c) own-talk) ((kind-ok (c .call) (ok .call-ok), omega arith), tt));
   }
 
-  pressOff-ok : StepOk (pressOff x c)
+  pressOff-ok : Ranged (pressOff x c)
   unfolding pressOff
   pressOff-ok = record { next-ok = kept _ refl refl refl; sends-ok = press-off-ok }
 
@@ -209,7 +176,7 @@ module _ (x : Context) (own : NumberOk (x .own)) (c : Channel) (ok : ChannelOk c
   mobile-talk (Open k d b′ s m) o b n h g =
       record { kind-is = o .kind-is; direction-low = omega arith; direction-high = omega arith; base-ok = rw (le-leb b 29 h); number-ok = g }
 
-  mobileOn-ok : (b : ℕ) (n : Number) → b ≤ 29 → NumberOk n → StepOk (mobileOn x b n c)
+  mobileOn-ok : (b : ℕ) (n : Number) → b ≤ 29 → NumberOk n → Ranged (mobileOn x b n c)
   unfolding mobileOn
   mobileOn-ok b n h g =
       let t = mobile-talk (c .call) (ok .call-ok) b n h g in
@@ -220,31 +187,31 @@ module _ (x : Context) (own : NumberOk (x .own)) (c : Channel) (ok : ChannelOk c
         sends-ok = (tt, ((t, omega arith), each-append SendOk (openingSends (c .call) new) _ (opening-ok (c .call) new o) ((t, omega arith), tt)));
       }
 
-  mobileOff-ok : StepOk (mobileOff c)
+  mobileOff-ok : Ranged (mobileOff c)
   unfolding mobileOff
   mobileOff-ok = record { next-ok = record { code-ok = ok .code-ok; call-ok = ok .call-ok; arrival-ok = tt }; sends-ok = off-ok (c .arrival) (ok .arrival-ok) }
 
-  tickQuiet-ok : StepOk (tickQuiet c)
+  tickQuiet-ok : Ranged (tickQuiet c)
   unfolding tickQuiet
   tickQuiet-ok =
-      either StepOk (leb (c .quiet) 1) _ _
+      either Ranged (leb (c .quiet) 1) _ _
       (record { next-ok = record { code-ok = ok .code-ok; call-ok = tt; arrival-ok = ok .arrival-ok }; sends-ok = end-ok 3 (omega arith) (c .call) (ok .call-ok) })
       (record { next-ok = kept _ refl refl refl; sends-ok = tt })
 
-  tickRelease-ok : StepOk (tickRelease x c)
+  tickRelease-ok : Ranged (tickRelease x c)
   unfolding tickRelease
   tickRelease-ok =
-      either StepOk (leb (c .release) 1) _ _ (record { next-ok = kept _ refl refl refl; sends-ok = freed-ok }) (record { next-ok = kept _ refl refl refl; sends-ok = tt })
+      either Ranged (leb (c .release) 1) _ _ (record { next-ok = kept _ refl refl refl; sends-ok = freed-ok }) (record { next-ok = kept _ refl refl refl; sends-ok = tt })
 
-  tickIdle-ok : StepOk (tickIdle x c)
+  tickIdle-ok : Ranged (tickIdle x c)
   unfolding tickIdle
-  tickIdle-ok = either StepOk (ltb 0 (c .quiet)) _ _ tickQuiet-ok (either StepOk (isHeld (c .holder)) _ _ tickRelease-ok plain-ok)
+  tickIdle-ok = either Ranged (ltb 0 (c .quiet)) _ _ tickQuiet-ok (either Ranged (isHeld (c .holder)) _ _ tickRelease-ok plain-ok)
 
-  tick-ok : StepOk (tick x c)
+  tick-ok : Ranged (tick x c)
   unfolding tick
-  tick-ok = either StepOk (c .pressed) _ _ plain-ok (either StepOk (isPresent (c .arrival)) _ _ plain-ok tickIdle-ok)
+  tick-ok = either Ranged (c .pressed) _ _ plain-ok (either Ranged (isPresent (c .arrival)) _ _ plain-ok tickIdle-ok)
 
-  handover-ok : StepOk (handover x c)
+  handover-ok : Ranged (handover x c)
   unfolding handover
   handover-ok = record {
     next-ok = record { code-ok = ok .code-ok; call-ok = tt; arrival-ok = tt };
@@ -254,14 +221,14 @@ module _ (x : Context) (own : NumberOk (x .own)) (c : Channel) (ok : ChannelOk c
         (each-append SendOk (endOf 2 (c .call)) _ (end-ok 2 (omega arith) (c .call) (ok .call-ok)) (either SendsOk (isHeld (c .holder)) _ _ freed-ok tt)));
   }
 
-  pub happens-ok : (v : Event) → EventOk v → StepOk (happens v x c)
+  pub happens-ranged : (v : Event) → Fits v c → Ranged (happens v x c)
   unfolding happens
-  happens-ok (Capture d) h = capture-ok d
-  happens-ok (Release d) h = release-ok d
-  happens-ok Cut h = cut-ok
-  happens-ok PressOn h = pressOn-ok
-  happens-ok PressOff h = pressOff-ok
-  happens-ok (MobileOn b n) h = mobileOn-ok b n (h .0) (h .1)
-  happens-ok MobileOff h = mobileOff-ok
-  happens-ok Tick h = tick-ok
-  happens-ok Handover h = handover-ok
+  happens-ranged (Capture d) h = capture-ok d
+  happens-ranged (Release d) h = release-ok d
+  happens-ranged Cut h = cut-ok
+  happens-ranged PressOn h = pressOn-ok
+  happens-ranged PressOff h = pressOff-ok
+  happens-ranged (MobileOn b n) h = mobileOn-ok b n (h .0) (h .1)
+  happens-ranged MobileOff h = mobileOff-ok
+  happens-ranged Tick h = tick-ok
+  happens-ranged Handover h = handover-ok

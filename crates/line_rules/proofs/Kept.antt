@@ -1,0 +1,34 @@
+-- The promises of `specs/Promises.antt` that other crates cite, kept.
+-- Assumes nothing.
+use mathlib.Core.Path.{refl}
+use mathlib.Core.Bool.{false≢true}
+use Rattle.line_rules.specs.Promises.{FreeIsOk, StaysOk, SaysInRange, HideTwice, PresentHide, HappensHide, NumberHidden}
+use Rattle.line_rules.proofs.Ranges as ranges
+use Rattle.line_rules.proofs.Timers.{happens-timed}
+use Rattle.line_rules.proofs.Veil as left
+
+pub free-is-ok : FreeIsOk
+free-is-ok code entitled h = record {
+  in-range = record { code-ok = h; call-ok = tt; arrival-ok = tt };
+  timed = record { quiet-runs = refl; release-runs = refl; pressed-held = λ p. absurd (false≢true p); pressed-open = λ p. absurd (false≢true p) };
+}
+
+pub stays-ok : StaysOk
+stays-ok v x c own h ok =
+    let r = ranges.happens-ranged x own c (ok .in-range) v h in
+    record { next-ok = record { in-range = r .next-ok; timed = happens-timed x c (ok .timed) v h }; sends-ok = r .sends-ok }
+
+pub says-in-range : SaysInRange
+says-in-range = ranges.says-in-range
+
+pub hide-twice : HideTwice
+hide-twice = left.hide-twice
+
+pub present-hide : PresentHide
+present-hide = left.present-hide
+
+pub happens-hide : HappensHide
+happens-hide = left.happens-hide
+
+pub number-hidden : NumberHidden
+number-hidden = left.number-hidden

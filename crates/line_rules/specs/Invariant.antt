@@ -1,0 +1,109 @@
+-- What holds of a channel in every state that a feed from a new set brings about, and what it sends then.
+use Prim.Native.Nat.{ℕ, _^_, _≤_, _<_}
+use mathlib.Core.List.{List}
+use mathlib.Core.Bool.{true, _||_, _&&_, not}
+use mathlib.Core.Path.{_≡_}
+use lib.Dec.{leb, ltb}
+use Rattle.laws.specs.Each.{Each}
+use Rattle.fields.specs.Fields.{between}
+use Rattle.telegram.specs.Telegram.{inRange}
+use Rattle.telegram.specs.declared.message.Number.{Number}
+use Rattle.channel.specs.State.{isHeld, isPresent}
+use Rattle.channel.specs.declared.state.Call.{Call}
+use Rattle.channel.specs.declared.state.Call.the-variants.{Closed, Open}
+use Rattle.channel.specs.declared.state.Arrival.{Arrival}
+use Rattle.channel.specs.declared.state.Arrival.the-variants.{Absent, Present}
+use Rattle.channel.specs.declared.state.Channel.{Channel}
+use Rattle.channel.specs.declared.state.Event.{Event}
+use Rattle.channel.specs.declared.state.Event.the-variants.{Capture, Release, Cut, PressOn, PressOff, MobileOn, MobileOff, Tick, Handover}
+use Rattle.channel.specs.declared.state.Notice.{Notice}
+use Rattle.channel.specs.declared.state.Notice.the-variants.{PressAnswer, Incoming, BaseArrival, Call as CallNotice, CallerNotice, CaptureReply, CaptureState}
+use Rattle.channel.specs.declared.state.Send.{Send}
+use Rattle.line_rules.specs.Rules.{Step, general, isOpen}
+use Rattle.line_rules.specs.Notices.{Content, telegram, contact}
+
+-- ---- numbers and codes in range
+
+-- eight digits
+abbrev pub NumberOk : Number → Type 0
+NumberOk n = n .digits < 10 ^ 8
+
+-- what the field of a base allows
+abbrev pub BaseOk : ℕ → Type 0
+BaseOk b = (leb b 29 || between 997 999 b) ≡ true
+
+-- a call's type, direction, base and source; "Type is always 1"
+pub record TalkOk (kind direction base : ℕ) (n : Number) : Type 0 where
+  pub kind-is : kind ≡ general
+  pub direction-low : 1 ≤ direction
+  pub direction-high : direction ≤ 2
+  pub base-ok : BaseOk base
+  pub number-ok : NumberOk n
+
+abbrev pub CallOk : Call → Type 0
+CallOk Closed = Unit {0}
+CallOk (Open k d b s m) = TalkOk k d b s
+
+abbrev pub ArrivalOk : Arrival → Type 0
+ArrivalOk Absent = Unit {0}
+ArrivalOk (Present k b n m) = TalkOk k 2 b n
+
+pub record InRange (c : Channel) : Type 0 where
+  pub code-ok : c .code ≤ 99
+  pub call-ok : CallOk (c .call)
+  pub arrival-ok : ArrivalOk (c .arrival)
+
+-- ---- timers and press
+
+pub record Timed (c : Channel) : Type 0 where
+  -- the quiet timer runs exactly when a call is open, nothing pressed and no arrival
+  pub quiet-runs : ltb 0 (c .quiet) ≡ (isOpen (c .call) && (not (c .pressed) && not (isPresent (c .arrival))))
+  -- the release timer runs exactly when the channel is held
+  pub release-runs : ltb 0 (c .release) ≡ isHeld (c .holder)
+  -- pressed implies held and a call open
+  pub pressed-held : c .pressed ≡ true → isHeld (c .holder) ≡ true
+  pub pressed-open : c .pressed ≡ true → isOpen (c .call) ≡ true
+
+-- ---- all that holds of a channel
+
+pub record ChannelOk (c : Channel) : Type 0 where
+  pub in-range : InRange c
+  pub timed : Timed c
+
+-- what an accepted entry makes sure of before an event: a mobile's base and number, and that a press is the holder's and new
+abbrev pub Fits : Event → Channel → Type 0
+Fits (Capture d) c = Unit {0}
+Fits (Release d) c = Unit {0}
+Fits Cut c = Unit {0}
+Fits PressOn c = isHeld (c .holder) ≡ true
+Fits PressOff c = c .pressed ≡ true
+Fits (MobileOn b n) c = (b ≤ 29) × NumberOk n
+Fits MobileOff c = Unit {0}
+Fits Tick c = Unit {0}
+Fits Handover c = Unit {0}
+
+-- ---- what is sent
+
+abbrev pub NoticeOk : Notice → Type 0
+NoticeOk (PressAnswer on) = Unit {0}
+NoticeOk (Incoming on) = Unit {0}
+NoticeOk (BaseArrival k b n o) = TalkOk k 2 b n × (o ≤ 1)
+NoticeOk (CallNotice k d b s t r) = TalkOk k d b s × (t ≤ 1) × (r ≤ 3)
+NoticeOk (CallerNotice k d b n o) = TalkOk k d b n × (o ≤ 1)
+NoticeOk (CaptureReply r) = r ≤ 1
+NoticeOk (CaptureState h n s) = NumberOk n × (s ≤ 1)
+
+abbrev pub SendOk : Send → Type 0
+SendOk s = NoticeOk (s .notice)
+
+abbrev pub SendsOk : List Send → Type 0
+SendsOk = Each SendOk
+
+pub record StepOk (st : Step) : Type 0 where
+  pub next-ok : ChannelOk (st .next)
+  pub sends-ok : SendsOk (st .sends)
+
+-- a telegram whose every field is in its range
+abbrev pub ContentOk : Content → Type 0
+ContentOk (telegram m) = inRange m ≡ true
+ContentOk (contact k ch on) = Unit {0}
