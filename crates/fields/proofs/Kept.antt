@@ -1,6 +1,6 @@
 -- The promises of `specs/Promises.antt`, kept: the one module of these proofs that other crates cite.
 -- Assumes nothing.
-use Rattle.fields.specs.Promises.{AsWide, AreDigits, NoDigits, LastDigit, InTwo, SpellBack, OneSpelling, SpellBelow, DigitsFound, DigitsRefused, AsLong, AsMany, ReadsBack, WrittenForm, FieldsFound, FieldsRefused}
+use Rattle.fields.specs.Promises.{AsWide, AreDigits, NoDigits, LastDigit, InTwo, SpellBack, OneSpelling, SpellBelow, DigitsFound, DigitsRefused, DigitsBySpelling, AsLong, AsMany, ReadsBack, WrittenForm, FieldsFound, FieldsRefused, ReadBySpelling}
 use Rattle.fields.proofs.DigitLaws as digits
 use Rattle.fields.proofs.FieldLaws as fields
 
@@ -34,6 +34,9 @@ value-found = digits.value-found
 pub malformed-found : DigitsRefused
 malformed-found = digits.malformed-found
 
+pub digits-spelt : DigitsBySpelling
+digits-spelt = digits.digits-spelt
+
 pub length-bytes : AsLong
 length-bytes = fields.length-bytes
 
@@ -51,3 +54,6 @@ fields-found = fields.fields-found
 
 pub fields-none : FieldsRefused
 fields-none = fields.fields-none
+
+pub fields-spelt : ReadBySpelling
+fields-spelt = fields.fields-spelt

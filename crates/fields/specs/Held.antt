@@ -1,11 +1,12 @@
--- How the code holds lists of fields, and what it reads of them.
+-- How the code holds lists of fields, and what it reads of them. None of it is a rule.
 use Prim.Native.Nat.{ℕ, _%_, _/_}
 use mathlib.Core.List.{List, [], _∷_, map}
 use mathlib.Core.Bool.{true, false, _&&_, cond}
-use lib.Dec.{leb}
-use lib.ListN.{length, getD, replicate}
+use lib.Dec.{leb, eqb}
+use lib.ListN.{length, take, drop, getD, replicate}
 use lib.Seq.{sets}
-use Rattle.fields.specs.Fields.{Field, plain, code, channel, base, callType, direction, reason, len, flag, year, month, day, hour, minute, bodyOk, valuesIn}
+use Rattle.fields.specs.Digits.{allDigits, valueOf}
+use Rattle.fields.specs.Fields.{Field, plain, code, channel, base, callType, direction, reason, len, flag, year, month, day, hour, minute, bodyOk, valuesIn, allIn, bodySize}
 use Rattle.fields.specs.declared.lists.Fields.{Fields}
 
 -- A field goes by ten times its place in this list, plus its width.
@@ -28,3 +29,18 @@ noFields = record { ok = false; values = padded [] }
 
 abbrev pub fieldsIn : List Field → List ℕ → Fields
 fieldsIn fs b = cond (leb (length fs) 11 && bodyOk fs 0 0 b) (record { ok = true; values = padded (valuesIn fs b) }) noFields
+
+-- ---- a reader in a straight line
+
+-- the number that bytes spell, or one above any that nine digits spell
+abbrev pub asNumber : List ℕ → ℕ
+asNumber bs = cond (allDigits bs) (valueOf bs) 1000000000
+
+-- what the bytes of each field spell
+unfoldable pub asNumbers : List Field → List ℕ → List ℕ
+asNumbers [] b = []
+asNumbers (f ∷ fs) b = asNumber (take (f .width) b) ∷ asNumbers fs (drop (f .width) b)
+
+-- the same fields by it: the size alone, then what the bytes of each field spell
+abbrev pub fieldsBySpelling : List Field → List ℕ → Fields
+fieldsBySpelling fs b = cond (eqb (length b) (bodySize fs) && allIn fs 0 0 (asNumbers fs b)) (record { ok = true; values = padded (asNumbers fs b) }) noFields

@@ -2,12 +2,13 @@
 -- under the name given with it, and is the one module of the proofs that other crates cite.
 use Prim.Native.Nat.{ℕ, zero, suc, _+_, _/_, _%_, _^_, _≤_, _<_}
 use mathlib.Core.List.{List, [], _∷_, _++_}
-use mathlib.Core.Bool.{true, false}
+use mathlib.Core.Bool.{true, false, cond}
 use mathlib.Core.Path.{_≡_}
+use lib.Dec.{ltb}
 use lib.ListN.{length}
 use Rattle.fields.specs.Digits.{digitsOf, allDigits, valueOf, digitsIn}
 use Rattle.fields.specs.Fields.{Field, bodyOk, valuesIn, allIn, bytesOf, bodySize}
-use Rattle.fields.specs.Held.{padded, fieldsIn}
+use Rattle.fields.specs.Held.{fieldsOf, padded, fieldsIn, asNumber, fieldsBySpelling}
 use Rattle.fields.specs.declared.digits.Digits.the-variants.{Value, Malformed}
 use Rattle.fields.specs.declared.lists.Fields.{Fields}
 
@@ -55,6 +56,11 @@ DigitsFound = (bs : List ℕ) (v : ℕ) → digitsIn bs ≡ Value v → (allDigi
 abbrev pub DigitsRefused : Type 0
 DigitsRefused = (bs : List ℕ) → length bs ≤ 9 → digitsIn bs ≡ Malformed → allDigits bs ≡ false
 
+-- At most nine bytes read alike from the number that they spell (`digits-spelt`).
+abbrev pub DigitsBySpelling : Type 0
+DigitsBySpelling =
+    (bs : List ℕ) → length bs ≤ 9 → digitsIn bs ≡ cond (ltb (asNumber bs) (10 ^ length bs)) (Value (asNumber bs)) Malformed
+
 -- ---- lists of fields
 
 -- What is written is as long as its fields are wide (`length-bytes`).
@@ -85,3 +91,7 @@ FieldsFound =
 
 abbrev pub FieldsRefused : Type 0
 FieldsRefused = (fs : List Field) (b : List ℕ) (f : Fields) → f ≡ fieldsIn fs b → length fs ≤ 11 → f .ok ≡ false → bodyOk fs 0 0 b ≡ false
+
+-- At most eleven fields read alike from what the bytes of each spell (`fields-spelt`).
+abbrev pub ReadBySpelling : Type 0
+ReadBySpelling = (ks b : List ℕ) → length ks ≤ 11 → fieldsIn (fieldsOf ks) b ≡ fieldsBySpelling (fieldsOf ks) b

@@ -5,11 +5,13 @@ use mathlib.Core.List.{List, [], _∷_}
 use mathlib.Core.Bool.{false, cond}
 use mathlib.Core.Path.{_≡_, refl, sym, ap}
 use lib.Dec.{eqb, lit≤}
-use lib.ListN.{length}
+use lib.ListN.{length, getD}
 use borrow.Author.Tests.{eqb-true, le-leb, ne-eqb}
-use Rattle.fields.specs.Fields.{bodyOk, valuesIn}
+use Rattle.fields.specs.Fields.{Field, bodyOk, valuesIn}
+use Rattle.fields.specs.Held.{asNumbers}
 use Rattle.fields.specs.Held.{padded, noFields}
 use Rattle.laws.specs.Each.{Each}
+use Rattle.laws.proofs.Lists.{tab, tab-all}
 use Rattle.laws.proofs.Tests.{by-test}
 use Rattle.telegram.specs.Telegram.{Row, table, readIn}
 use Rattle.telegram_reader.specs.Steps.{knownIn, bodyIn, messageIn}
@@ -67,3 +69,12 @@ apart-unlisted (r ∷ rs) i D a =
 
 pub unlisted : (i : ℕ) → Apart table i (Unit {0}) → Unlisted table i
 unlisted i a = apart-unlisted table i (Unit {0}) a .1
+
+-- ---- bytes one by one
+
+pub byte-by-byte : (b : List ℕ) (n : ℕ) → length b ≡ n → b ≡ tab n (λ i. getD b i 0)
+byte-by-byte b n e = sym (rw e at (tab-all b 0))
+
+-- what the fields' bytes spell, of n bytes
+pub by-bytes : (fs : List Field) (b : List ℕ) (n : ℕ) → length b ≡ n → asNumbers fs b ≡ asNumbers fs (tab n (λ i. getD b i 0))
+by-bytes fs b n e = ap (asNumbers fs) (byte-by-byte b n e)

@@ -1,4 +1,5 @@
 // Reading telegrams: the header, then the numbers of the body by its list of fields, then the message that they make.
+use fields::Digits;
 use fields::Fields;
 use telegram::BaseArrival;
 use telegram::Call;
@@ -11,7 +12,11 @@ use telegram::Number;
 use telegram::OperationAnswer;
 use telegram::Reading;
 use telegram::TimeNotice;
+ghost use mathlib.Core.List.{[], _∷_};
 ghost use mathlib.Core.Path.{_≡_};
+ghost use Rattle.fields.specs.Digits.{digitsIn};
+ghost use Rattle.fields.specs.Fields.{length4, code};
+ghost use Rattle.fields.specs.Held.{fieldsIn};
 ghost use Rattle.telegram.specs.Telegram.{timeNotice, operationAnswer, baseArrival, call, callerNotice, captureRequest, captureReply, captureState, table, readIn, readTelegram};
 ghost use Rattle.telegram_reader.specs.Steps.{knownIn, bodyIn, messageIn, headerOf};
 
@@ -132,6 +137,31 @@ fn is_known(identifier: u32) -> bool
     }
 }
 
+// The numbers of a capture request, in a straight line: by its list of fields they take some four times the instructions.
+fn read_capture_request(b: &[u8]) -> Fields
+    ensures { λ r. ⌜ r ≡ fieldsIn (captureRequest .body) (now (b .entry)) ⌝ }
+{
+    if b.len() != 13 {
+        return fields::no_fields();
+    }
+    let channel = fields::four(b'0', b[0], b[1], b[2]);
+    let len = fields::four(b'0', b'0', b'0', b[3]);
+    let number = fields::eight(b[4], b[5], b[6], b[7], b[8], b[9], b[10], b[11]);
+    let order = fields::four(b'0', b'0', b'0', b[12]);
+    if fields::in_range(fields::CHANNEL, 0, 0, channel)
+        & fields::in_range(fields::LEN, 0, channel, len)
+        & fields::in_range(fields::NUMBER, channel, len, number)
+        & fields::in_range(fields::FLAG, len, number, order)
+    {
+        Fields {
+            ok: true,
+            values: [channel, len, number, order, 0, 0, 0, 0, 0, 0, 0],
+        }
+    } else {
+        fields::no_fields()
+    }
+}
+
 // The numbers of the fields that belong to an identifier.
 fn read_body(identifier: u32, body: &[u8]) -> Fields
     ensures { λ r. ⌜ r ≡ bodyIn table identifier (now (body .entry)) ⌝ }
@@ -144,7 +174,7 @@ fn read_body(identifier: u32, body: &[u8]) -> Fields
         550471 => fields::read_fields(body, &telegram::NO_FIELDS),
         550473 => fields::read_fields(body, &telegram::CALL),
         550477 => fields::read_fields(body, &telegram::CALLER_NOTICE),
-        550600 => fields::read_fields(body, &telegram::CAPTURE_REQUEST),
+        550600 => read_capture_request(body),
         550650 => fields::read_fields(body, &telegram::CAPTURE_REPLY),
         550651 => fields::read_fields(body, &telegram::CAPTURE_STATE),
         _ => fields::no_fields(),
@@ -202,7 +232,24 @@ enum Header {
     Bad,
 }
 
-const LENGTH_AND_CODE: [u8; 2] = [fields::LENGTH, fields::CODE];
+// The numbers of the length and of the organisation code, in a straight line.
+fn read_heading(s: &[u8]) -> Fields
+    ensures { λ r. ⌜ r ≡ fieldsIn (length4 ∷ code ∷ []) (now (s .entry)) ⌝ }
+{
+    if s.len() != 8 {
+        return fields::no_fields();
+    }
+    let n = fields::four(s[0], s[1], s[2], s[3]);
+    let code = fields::four(s[4], s[5], s[6], s[7]);
+    if fields::in_range(fields::LENGTH, 0, 0, n) & fields::in_range(fields::CODE, 0, n, code) {
+        Fields {
+            ok: true,
+            values: [n, code, 0, 0, 0, 0, 0, 0, 0, 0, 0],
+        }
+    } else {
+        fields::no_fields()
+    }
+}
 
 fn read_header(s: &[u8]) -> Header
     ensures { λ r. ⌜ r ≡ headerOf (now (s .entry)) ⌝ }
@@ -216,7 +263,7 @@ fn read_header(s: &[u8]) -> Header
     if s[1] != b'V' {
         return Header::Bad;
     }
-    let f = fields::read_fields(&s[2..10], &LENGTH_AND_CODE);
+    let f = read_heading(&s[2..10]);
     if !f.ok {
         return Header::Bad;
     }
@@ -225,6 +272,21 @@ fn read_header(s: &[u8]) -> Header
         return Header::Bad;
     }
     Header::Code(v[1])
+}
+
+// What digits spell, six of them in a straight line.
+fn read_identifier(s: &[u8]) -> Digits
+    ensures { λ r. ⌜ r ≡ digitsIn (now (s .entry)) ⌝ }
+{
+    if s.len() != 6 {
+        return fields::read_digits(s);
+    }
+    let v = fields::eight(b'0', b'0', s[0], s[1], s[2], s[3], s[4], s[5]);
+    if v < 1000000 {
+        Digits::Value(v)
+    } else {
+        Digits::Malformed
+    }
 }
 
 // Reads any bytes as one telegram.
@@ -239,8 +301,8 @@ pub fn read(s: &[u8]) -> Reading
             identifier: 0,
         };
     };
-    let d = fields::read_digits(&s[10..16]);
-    let fields::Digits::Value(identifier) = d else {
+    let d = read_identifier(&s[10..16]);
+    let Digits::Value(identifier) = d else {
         return Reading::Refused {
             number: 9,
             code,

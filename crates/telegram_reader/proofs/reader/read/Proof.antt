@@ -22,8 +22,8 @@ returns : tie.Need-returns
 unfolding readTelegram
 returns c = rw (header-none _ (sym (c .before .before .read-header .ensures) ∙ c .enum-told .given .1))
 
-part-read-digits-end : tie.Need-part-read-digits-end
-part-read-digits-end c = header-long _ _ (sym (c .before .before .before .read-header .ensures) ∙ c .before .h .given .1)
+part-read-identifier-end : tie.Need-part-read-identifier-end
+part-read-identifier-end c = header-long _ _ (sym (c .before .before .before .read-header .ensures) ∙ c .before .h .given .1)
 
 returns-2 : tie.Need-returns-2
 unfolding readTelegram
@@ -34,7 +34,7 @@ returns-2 c =
     let n : 16 ≤ length s = header-long s _ e in
     let w : 6 ≤ length (drop 10 s) = simp length-drop (omega arith) in
     let k : length (take 6 (drop 10 s)) ≤ 9 = rw (length-take-le 6 (drop 10 s) w) (omega arith) in
-    let d : allDigits (take 6 (drop 10 s)) ≡ false = malformed-found _ k (sym (c .before .before .read-digits .ensures) ∙ c .enum-told2 .given .1) in
+    let d : allDigits (take 6 (drop 10 s)) ≡ false = malformed-found _ k (sym (c .before .before .read-identifier .ensures) ∙ c .enum-told2 .given .1) in
     rw (h .0, h .1, d)
 
 sub-read-identified : tie.Need-sub-read-identified
@@ -48,7 +48,7 @@ unfolding readTelegram
 returns-3 c =
     let s = c .before .before .before .before .before .before .before .before .before .before .before .before .args .s .now in
     let h = header-found s _ (sym (c .before .before .before .before .before .before .before .before .before .before .read-header .ensures) ∙ c .before .before .before .before .before .before .before .before .h .given .1) in
-    let d = value-found (take 6 (drop 10 s)) _ (sym (c .before .before .before .before .before .read-digits .ensures) ∙ c .before .before .before .d .given .1) in
+    let d = value-found (take 6 (drop 10 s)) _ (sym (c .before .before .before .before .before .read-identifier .ensures) ∙ c .before .before .before .d .given .1) in
     let e = rw (part-to-end s 16) at (c .read-identified .ensures) in
     rw (h .0, h .1, d .0, d .1) e
 
@@ -57,5 +57,5 @@ read-spec =
     tie.close
     (tie.spec
     (λ c κs. search needs) (λ c. search needs) enum-told returns (λ c. search needs) (λ c. search needs)
-    part-read-digits-end (λ c κs. search needs) (λ c. search needs) (λ c. search needs) returns-2 sub-read-identified
+    part-read-identifier-end (λ c κs. search needs) (λ c. search needs) (λ c. search needs) returns-2 sub-read-identified
     part-read-identified-start (λ c. search needs) (λ c κs. search needs) returns-3)

@@ -28,31 +28,31 @@ returns-3 c = simp (le-leb _ _ (c .before .before .before .before .if1 .left), e
 returns-4 : tie.Need-returns-4
 unfolding headerOk
 returns-4 c =
-    let f = fields-none (length4 ∷ code ∷ []) _ _ (c .before .before .read-fields .ensures) (lit≤ tt) (not-true _ (c .if4 .taken)) in
-    simp (le-leb _ _ (c .before .before .before .before .before .before .before .before .before .if1 .left), eq-eqb _ _ (c .before .before .before .before .before .before .before .if2 .left), eq-eqb _ _ (c .before .before .before .before .before .if3 .left), f)
+    let f = fields-none (length4 ∷ code ∷ []) _ _ (c .before .before .read-heading .ensures) (lit≤ tt) (not-true _ (c .if4 .taken)) in
+    simp (le-leb _ _ (c .before .before .before .before .before .before .before .before .if1 .left), eq-eqb _ _ (c .before .before .before .before .before .before .if2 .left), eq-eqb _ _ (c .before .before .before .before .if3 .left), f)
 
 returns-5 : tie.Need-returns-5
 unfolding headerOk valuesIn
 returns-5 c =
-    let f = fields-found (length4 ∷ code ∷ []) _ _ (c .before .before .before .before .read-fields .ensures) (not-false _ (c .before .before .if4 .left)) in
-    let s = c .before .before .before .before .before .before .before .before .before .before .before .before .before .args .s .now in
-    let v : nth (c .before .before .before .before .read-fields .result .values) 0 ≡ nth (heading s) 0 = rw (f .1) in
+    let f = fields-found (length4 ∷ code ∷ []) _ _ (c .before .before .before .before .read-heading .ensures) (not-false _ (c .before .before .if4 .left)) in
+    let s = c .before .before .before .before .before .before .before .before .before .before .before .before .args .s .now in
+    let v : nth (c .before .before .before .before .read-heading .result .values) 0 ≡ nth (heading s) 0 = rw (f .1) in
     let n : eqb (nth (heading s) 0) (length s) ≡ false = ne-eqb _ _ (λ q. c .if5 .taken (v ∙ q)) in
-    simp (le-leb _ _ (c .before .before .before .before .before .before .before .before .before .before .before .if1 .left), eq-eqb _ _ (c .before .before .before .before .before .before .before .before .before .if2 .left), eq-eqb _ _ (c .before .before .before .before .before .before .before .if3 .left), f .0, n)
+    simp (le-leb _ _ (c .before .before .before .before .before .before .before .before .before .before .if1 .left), eq-eqb _ _ (c .before .before .before .before .before .before .before .before .if2 .left), eq-eqb _ _ (c .before .before .before .before .before .before .if3 .left), f .0, n)
 
 returns-6 : tie.Need-returns-6
 unfolding headerOk valuesIn
 returns-6 c =
-    let f = fields-found (length4 ∷ code ∷ []) _ _ (c .before .before .before .before .read-fields .ensures) (not-false _ (c .before .before .if4 .left)) in
-    let s = c .before .before .before .before .before .before .before .before .before .before .before .before .before .args .s .now in
-    let v : nth (c .before .before .before .before .read-fields .result .values) 0 ≡ nth (heading s) 0 = rw (f .1) in
+    let f = fields-found (length4 ∷ code ∷ []) _ _ (c .before .before .before .before .read-heading .ensures) (not-false _ (c .before .before .if4 .left)) in
+    let s = c .before .before .before .before .before .before .before .before .before .before .before .before .args .s .now in
+    let v : nth (c .before .before .before .before .read-heading .result .values) 0 ≡ nth (heading s) 0 = rw (f .1) in
     let n : eqb (nth (heading s) 0) (length s) ≡ true = eq-eqb _ _ (sym v ∙ c .if5 .left) in
-    simp (le-leb _ _ (c .before .before .before .before .before .before .before .before .before .before .before .if1 .left), eq-eqb _ _ (c .before .before .before .before .before .before .before .before .before .if2 .left), eq-eqb _ _ (c .before .before .before .before .before .before .before .if3 .left), f .0, n, f .1)
+    simp (le-leb _ _ (c .before .before .before .before .before .before .before .before .before .before .if1 .left), eq-eqb _ _ (c .before .before .before .before .before .before .before .before .if2 .left), eq-eqb _ _ (c .before .before .before .before .before .before .if3 .left), f .0, n, f .1)
 
 pub read-header-spec : {M : Type 1} → statement M
 read-header-spec =
     tie.close
     (tie.spec
     returns (λ c. search needs) returns-2 (λ c. search needs) returns-3 (λ c. search needs) (λ c. search needs)
-    (λ c. search needs) (λ c. search needs) (λ c κs. search needs) returns-4 (λ c. search needs) (λ c. search needs)
-    returns-5 (λ c. search needs) returns-6)
+    (λ c. search needs) (λ c κs. search needs) returns-4 (λ c. search needs) (λ c. search needs) returns-5
+    (λ c. search needs) returns-6)
