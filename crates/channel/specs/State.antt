@@ -2,8 +2,8 @@
 use Prim.Native.Nat.{ℕ, zero, suc, _-_, _/_, _%_, _^_}
 use mathlib.Core.Bool.{Bool, true, false, cond}
 use lib.Dec.{ltb, eqb}
-use Rattle.channel.specs.declared.state.Holder.{Holder}
-use Rattle.channel.specs.declared.state.Holder.the-variants.{Nobody, Held}
+use Rattle.channel.specs.declared.state.Party.{Party}
+use Rattle.channel.specs.declared.state.Party.the-variants.{Nobody, By}
 use Rattle.channel.specs.declared.state.Call.the-variants.{Closed}
 use Rattle.channel.specs.declared.state.Arrival.{Arrival}
 use Rattle.channel.specs.declared.state.Arrival.the-variants.{Absent, Present}
@@ -24,21 +24,22 @@ isIn (suc d) m = isIn d (m / 2)
 
 abbrev pub freeChannel : ℕ → ℕ → Channel
 freeChannel k m =
-    record { code = k; entitled = m; holder = Nobody; pressed = false; call = Closed; arrival = Absent; quiet = 0; release = 0 }
+    record { code = k; entitled = m; holder = Nobody; presser = Nobody; quiet = 0; release = 0; call = Closed; arrival = Absent }
 
-abbrev pub isHeld : Holder → Bool
+-- somebody holds the channel, or its talk key
+abbrev pub isHeld : Party → Bool
 isHeld Nobody = false
-isHeld (Held d) = true
+isHeld (By d) = true
 
-abbrev pub heldBy : ℕ → Holder → Bool
+abbrev pub heldBy : ℕ → Party → Bool
 heldBy d Nobody = false
-heldBy d (Held h) = eqb h d
+heldBy d (By h) = eqb h d
 
 -- the holder, as a place
-abbrev pub holderPlace : Holder → ℕ
+abbrev pub holderPlace : Party → ℕ
 holderPlace Nobody = 0
-holderPlace (Held d) = d
+holderPlace (By d) = d
 
 abbrev pub isPresent : Arrival → Bool
 isPresent Absent = false
-isPresent (Present k b n m) = true
+isPresent (Present k m b n) = true

@@ -3,10 +3,10 @@ use telegram::Number;
 ghost use mathlib.Core.Path.{_≡_};
 ghost use Rattle.channel.specs.State.{freeChannel};
 
-// The desk that has captured the channel, by its place in the plan.
-pub enum Holder {
+// A desk by its place in the plan, or none: who holds a channel, and who presses on it.
+pub enum Party {
     Nobody,
-    Held(u8),
+    By(u8),
 }
 
 // The open call, if there is one. `kind` is its type, `recipients` the desks that it was told to (01: its told set).
@@ -15,9 +15,9 @@ pub enum Call {
     Open {
         kind: u8,
         direction: u8,
+        recipients: u8,
         base: u16,
         source: Number,
-        recipients: u8,
     },
 }
 
@@ -26,9 +26,9 @@ pub enum Arrival {
     Absent,
     Present {
         kind: u8,
+        recipients: u8,
         base: u16,
         number: Number,
-        recipients: u8,
     },
 }
 
@@ -36,13 +36,14 @@ pub struct Channel {
     pub code: u8,
     // The desks that may use it (01: its mask).
     pub entitled: u8,
-    pub holder: Holder,
-    pub pressed: bool,
-    pub call: Call,
-    pub arrival: Arrival,
+    // Who has captured it, and who presses the talk key on it: the holder, if anyone.
+    pub holder: Party,
+    pub presser: Party,
     // The quiet timer and the release timer: seconds left, 0 when stopped (01: clocks).
     pub quiet: u8,
     pub release: u8,
+    pub call: Call,
+    pub arrival: Arrival,
 }
 
 impl Channel {
@@ -59,30 +60,34 @@ impl Channel {
         Channel {
             code,
             entitled,
-            holder: Holder::Nobody,
-            pressed: false,
-            call: Call::Closed,
-            arrival: Arrival::Absent,
+            holder: Party::Nobody,
+            presser: Party::Nobody,
             quiet: 0,
             release: 0,
+            call: Call::Closed,
+            arrival: Arrival::Absent,
         }
     }
 }
 
-// What happens on a channel. Press and cut are by its holder.
+// What happens on a channel, with what the entry says of it. A cut is by the holder, a press off by who presses. A handover is
+// two events: what talk there is ends, then the call and the hold.
 pub enum Event {
     Capture(u8),
     Release(u8),
     Cut,
-    PressOn,
+    // The desk that presses, and its own number.
+    PressOn { desk: u8, number: Number },
     PressOff,
     MobileOn { base: u16, number: Number },
     MobileOff,
     Tick,
-    Handover,
+    EndTalk,
+    EndCall,
 }
 
-// What a record says, whichever desk gets it: a contact or a telegram about the channel.
+// What a record says, whichever desk gets it: a contact or a telegram about the channel. A desk's own number is not in it: it
+// is filled in when the record to that desk is made.
 pub enum Notice {
     PressAnswer {
         on: u8,
@@ -104,9 +109,14 @@ pub enum Notice {
         start: u8,
         reason: u8,
     },
+    // The desk that gets it presses (`order` is 1) or no longer does.
+    PressNotice {
+        kind: u8,
+        order: u8,
+    },
+    // A mobile talks, or no longer does.
     CallerNotice {
         kind: u8,
-        direction: u8,
         base: u16,
         number: Number,
         order: u8,
@@ -114,10 +124,8 @@ pub enum Notice {
     CaptureReply {
         result: u8,
     },
-    // The number is the holder's, and no other desk gets it.
     CaptureState {
         holder: u8,
-        number: Number,
         state: u8,
     },
 }

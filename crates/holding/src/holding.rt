@@ -1,9 +1,9 @@
 // Who holds a channel: the rules for capture, cut and release.
 use channel::Call;
 use channel::Channel;
-use channel::Holder;
 use channel::Moved;
 use channel::Notice;
+use channel::Party;
 use channel::Send;
 use channel::held_by;
 use channel::only;
@@ -11,15 +11,13 @@ use sends::SILENT;
 use sends::alone;
 use sends::end;
 use sends::freed;
-use sends::holder_set;
 use sends::press_sends;
-use sends::set_if;
-use telegram::Number;
+use sends::set_of;
 ghost use mathlib.Core.Path.{_≡_};
 ghost use mathlib.Core.List.{[], _∷_};
 ghost use Rattle.channel.specs.State.{only};
 ghost use Rattle.line_rules.specs.Rules.{step, to, captured, capture, cut, release};
-ghost use Rattle.sends.specs.Scripts.{Follows, context};
+ghost use Rattle.sends.specs.Scripts.{Follows};
 ghost use Rattle.channel.specs.declared.state.Notice.the-variants.{CaptureReply};
 
 // The answer to a desk that asks for a channel or gives it back.
@@ -42,9 +40,10 @@ fn replied(d: u8, result: u8, channel: Channel) -> Moved
 }
 
 // A free channel gets its holder.
-fn captured(listeners: u8, own: Number, d: u8, channel: Channel) -> Moved
-    ensures { λ r. ⌜ Follows r (captured (context listeners own) d channel) ⌝ }
+fn captured(listeners: u8, d: u8, channel: Channel) -> Moved
+    ensures { λ r. ⌜ Follows r (captured listeners d channel) ⌝ }
 {
+    let presser = channel.presser;
     let call = channel.call;
     let arrival = channel.arrival;
     let answer = reply(d, 0);
@@ -52,7 +51,6 @@ fn captured(listeners: u8, own: Number, d: u8, channel: Channel) -> Moved
         recipients: listeners,
         notice: Notice::CaptureState {
             holder: d,
-            number: own,
             state: 1,
         },
     };
@@ -60,24 +58,24 @@ fn captured(listeners: u8, own: Number, d: u8, channel: Channel) -> Moved
         next: Channel {
             code: channel.code,
             entitled: channel.entitled,
-            holder: Holder::Held(d),
-            pressed: channel.pressed,
-            call,
-            arrival,
+            holder: Party::By(d),
+            presser,
             quiet: channel.quiet,
             release: Channel::RELEASE,
+            call,
+            arrival,
         },
         sends: [answer, state, SILENT, SILENT, SILENT, SILENT, SILENT],
     }
 }
 
-pub fn capture(listeners: u8, own: Number, d: u8, channel: Channel) -> Moved
-    ensures { λ r. ⌜ Follows r (capture (context listeners own) d channel) ⌝ }
+pub fn capture(listeners: u8, d: u8, channel: Channel) -> Moved
+    ensures { λ r. ⌜ Follows r (capture listeners d channel) ⌝ }
 {
     let holder = channel.holder;
     match holder {
-        Holder::Nobody => captured(listeners, own, d, channel),
-        Holder::Held(h) => {
+        Party::Nobody => captured(listeners, d, channel),
+        Party::By(h) => {
             if h == d {
                 replied(d, 0, channel)
             } else {
@@ -88,46 +86,46 @@ pub fn capture(listeners: u8, own: Number, d: u8, channel: Channel) -> Moved
 }
 
 // A cut, with something sent before what a cut sends. The arrival stays: its mobile off is still to come.
-fn cut_after(first: Send, listeners: u8, own: Number, channel: Channel) -> Moved
-    ensures { λ r. ⌜ Follows r (step (cut (context listeners own) channel .next) (first ∷ cut (context listeners own) channel .sends)) ⌝ }
+fn cut_after(first: Send, listeners: u8, channel: Channel) -> Moved
+    ensures { λ r. ⌜ Follows r (step (cut listeners channel .next) (first ∷ cut listeners channel .sends)) ⌝ }
 {
     let holder = channel.holder;
+    let presser = channel.presser;
     let call = channel.call;
     let stays = channel.arrival;
-    let pressed = set_if(channel.pressed, holder_set(holder));
-    let off = press_sends(0, pressed, own, call);
+    let off = press_sends(0, set_of(presser), call);
     let answer = off.answer;
     let talk = off.talk;
     let end = end(1, call);
-    let state = freed(listeners, own, holder);
+    let state = freed(listeners, holder);
     Moved {
         next: Channel {
             code: channel.code,
             entitled: channel.entitled,
-            holder: Holder::Nobody,
-            pressed: false,
-            call: Call::Closed,
-            arrival: stays,
+            holder: Party::Nobody,
+            presser: Party::Nobody,
             quiet: 0,
             release: 0,
+            call: Call::Closed,
+            arrival: stays,
         },
         sends: [first, answer, talk, end, state, SILENT, SILENT],
     }
 }
 
-pub fn cut(listeners: u8, own: Number, channel: Channel) -> Moved
-    ensures { λ r. ⌜ Follows r (cut (context listeners own) channel) ⌝ }
+pub fn cut(listeners: u8, channel: Channel) -> Moved
+    ensures { λ r. ⌜ Follows r (cut listeners channel) ⌝ }
 {
-    cut_after(SILENT, listeners, own, channel)
+    cut_after(SILENT, listeners, channel)
 }
 
-pub fn release(listeners: u8, own: Number, d: u8, channel: Channel) -> Moved
-    ensures { λ r. ⌜ Follows r (release (context listeners own) d channel) ⌝ }
+pub fn release(listeners: u8, d: u8, channel: Channel) -> Moved
+    ensures { λ r. ⌜ Follows r (release listeners d channel) ⌝ }
 {
     let holder = channel.holder;
     if held_by(d, holder) {
         let answer = reply(d, 0);
-        cut_after(answer, listeners, own, channel)
+        cut_after(answer, listeners, channel)
     } else {
         replied(d, 1, channel)
     }

@@ -10,13 +10,13 @@ use Rattle.line_rules.proofs.Veil as left
 pub free-is-ok : FreeIsOk
 free-is-ok code entitled h = record {
   in-range = record { code-ok = h; call-ok = tt; arrival-ok = tt };
-  timed = record { quiet-runs = refl; release-runs = refl; pressed-held = λ p. absurd (false≢true p); pressed-open = λ p. absurd (false≢true p) };
+  timed = record { quiet-runs = refl; release-runs = refl; presser-holds = λ p. absurd (false≢true p); pressed-open = λ p. absurd (false≢true p) };
 }
 
 pub stays-ok : StaysOk
-stays-ok v x c own h ok =
-    let r = ranges.happens-ranged x own c (ok .in-range) v h in
-    record { next-ok = record { in-range = r .next-ok; timed = happens-timed x c (ok .timed) v h }; sends-ok = r .sends-ok }
+stays-ok v e c h ok =
+    let r = ranges.happens-ranged e c (ok .in-range) v h in
+    record { next-ok = record { in-range = r .next-ok; timed = happens-timed e c (ok .timed) v h }; sends-ok = r .sends-ok }
 
 pub says-in-range : SaysInRange
 says-in-range = ranges.says-in-range

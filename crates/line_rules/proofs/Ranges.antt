@@ -14,18 +14,18 @@ use Rattle.telegram.specs.Telegram.{num}
 use Rattle.telegram.specs.declared.message.Number.{Number}
 use Rattle.telegram.specs.declared.message.Message.the-variants.{CaptureState as State}
 use Rattle.channel.specs.State.{isHeld, heldBy, isPresent}
-use Rattle.line_rules.specs.Rules.{Context, Step, step, sentIf, happens, capture, captureAt, cut, release, pressOn, pressOff, mobileOn, mobileOff, tick, tickIdle, tickQuiet, tickRelease, handover, openedBy, openingSends, startOf, endOf, kindOf, pressOffSends, pressCall, mobileCall, mobileOffSends, freedSends, mobileRecipients}
+use Rattle.line_rules.specs.Rules.{Step, step, happens, capture, captureAt, cut, release, pressOn, pressOff, mobileOn, mobileOff, tick, tickIdle, tickQuiet, tickRelease, freed, endTalk, endCall, isPressed, general, openedBy, openingSends, startOf, endOf, kindOf, pressOffSends, pressCall, mobileCall, mobileOffSends, freedSends, mobileRecipients}
 use Rattle.line_rules.specs.Notices.{telegram}
-use Rattle.channel.specs.declared.state.Holder.{Holder}
-use Rattle.channel.specs.declared.state.Holder.the-variants.{Nobody, Held}
+use Rattle.channel.specs.declared.state.Party.{Party}
+use Rattle.channel.specs.declared.state.Party.the-variants.{Nobody, By}
 use Rattle.channel.specs.declared.state.Call.{Call}
 use Rattle.channel.specs.declared.state.Call.the-variants.{Closed, Open}
 use Rattle.channel.specs.declared.state.Arrival.{Arrival}
 use Rattle.channel.specs.declared.state.Arrival.the-variants.{Absent, Present}
 use Rattle.channel.specs.declared.state.Channel.{Channel}
 use Rattle.channel.specs.declared.state.Event.{Event}
-use Rattle.channel.specs.declared.state.Event.the-variants.{Capture, Release, Cut, PressOn, PressOff, MobileOn, MobileOff, Tick, Handover}
-use Rattle.channel.specs.declared.state.Notice.the-variants.{PressAnswer, Incoming, BaseArrival, Call as CallNotice, CallerNotice, CaptureReply, CaptureState}
+use Rattle.channel.specs.declared.state.Event.the-variants.{Capture, Release, Cut, PressOn, PressOff, MobileOn, MobileOff, Tick, EndTalk, EndCall}
+use Rattle.channel.specs.declared.state.Notice.the-variants.{PressAnswer, Incoming, BaseArrival, Call as CallNotice, PressNotice, CallerNotice, CaptureReply, CaptureState}
 use Rattle.line_rules.specs.Invariant.{NumberOk, BaseOk, TalkOk, CallOk, ArrivalOk, InRange, Fits, NoticeOk, SendOk, SendsOk, ContentOk}
 use Rattle.line_rules.specs.Promises.{SaysInRange}
 
@@ -50,37 +50,41 @@ StateOk ch s n = ContentOk (telegram (State (record { channel = ch; number = n; 
 
 pub says-in-range : SaysInRange
 unfolding allIn
-says-in-range d ch (PressAnswer on) h k = tt
-says-in-range d ch (Incoming on) h k = tt
-says-in-range d ch (BaseArrival kd b n o) h k =
+says-in-range d own ch (PressAnswer on) g h k = tt
+says-in-range d own ch (Incoming on) g h k = tt
+says-in-range d own ch (BaseArrival kd b n o) g h k =
     let t = k .0 in
     let c = channel-in ch h in
     let i = digit-in kd 3 (omega (arith, t .kind-is)) (omega arith) in
     let j = digit-in o 1 (k .1) (omega arith) in
     simp (c .0, c .1, below b (t .base-ok), t .base-ok, i .0, i .1, le-leb 1 kd (omega (arith, t .kind-is)), lt-ltb (n .digits) (10 ^ 8) (t .number-ok), j .0, j .1)
-says-in-range d ch (CallNotice kd di b s st r) h k =
+says-in-range d own ch (CallNotice kd di b s st r) g h k =
     let t = k .0 in
     let c = channel-in ch h in
     let i = digit-in kd 3 (omega (arith, t .kind-is)) (omega arith) in
     let w = digit-in di 2 (t .direction-high) (omega arith) in
     let j = digit-in st 1 (k .1) (omega arith) in
     simp (c .0, c .1, below b (t .base-ok), t .base-ok, i .0, i .1, le-leb 1 kd (omega (arith, t .kind-is)), w .0, w .1, le-leb 1 di (t .direction-low), j .0, j .1, lt-ltb r (10 ^ 2) (omega arith), le-leb r 3 (k .2), lt-ltb (s .digits) (10 ^ 8) (t .number-ok))
-says-in-range d ch (CallerNotice kd di b n o) h k =
+says-in-range d own ch (PressNotice kd o) g h k =
+    let c = channel-in ch h in
+    let i = digit-in kd 3 (omega (arith, k .0)) (omega arith) in
+    let j = digit-in o 1 (k .1) (omega arith) in
+    simp (c .0, c .1, i .0, i .1, le-leb 1 kd (omega (arith, k .0)), lt-ltb (own .digits) (10 ^ 8) g, j .0, j .1)
+says-in-range d own ch (CallerNotice kd b n o) g h k =
     let t = k .0 in
     let c = channel-in ch h in
     let i = digit-in kd 3 (omega (arith, t .kind-is)) (omega arith) in
-    let w = digit-in di 2 (t .direction-high) (omega arith) in
     let j = digit-in o 1 (k .1) (omega arith) in
-    simp (c .0, c .1, below b (t .base-ok), t .base-ok, i .0, i .1, le-leb 1 kd (omega (arith, t .kind-is)), w .0, w .1, le-leb 1 di (t .direction-low), lt-ltb (n .digits) (10 ^ 8) (t .number-ok), j .0, j .1)
-says-in-range d ch (CaptureReply r) h k =
+    simp (c .0, c .1, below b (t .base-ok), t .base-ok, i .0, i .1, le-leb 1 kd (omega (arith, t .kind-is)), lt-ltb (n .digits) (10 ^ 8) (t .number-ok), j .0, j .1)
+says-in-range d own ch (CaptureReply r) g h k =
     let c = channel-in ch h in
     let j = digit-in r 1 k (omega arith) in
     simp (c .0, c .1, j .0, j .1)
-says-in-range d ch (CaptureState h′ n s) h k =
+says-in-range d own ch (CaptureState h′ s) g h k =
     let c = channel-in ch h in
-    let j = digit-in s 1 (k .1) (omega arith) in
+    let j = digit-in s 1 k (omega arith) in
     let ok : (x : Number) → NumberOk x → StateOk ch s x = λ x b. simp (c .0, c .1, lt-ltb (x .digits) (10 ^ 8) b, j .0, j .1) in
-    either (StateOk ch s) (eqb h′ d) n (num 0) (ok n (k .0)) (ok (num 0) (omega arith))
+    either (StateOk ch s) (eqb h′ d) own (num 0) (ok own g) (ok (num 0) (omega arith))
 
 -- ---- what a rule sends, and the channel after it
 
@@ -88,26 +92,26 @@ pub record Ranged (st : Step) : Type 0 where
   pub next-ok : InRange (st .next)
   pub sends-ok : SendsOk (st .sends)
 
-module _ (x : Context) (own : NumberOk (x .own)) (c : Channel) (ok : InRange c) where
-  -- the talk of the holder in a call
-  kind-ok : (k : Call) → CallOk k → TalkOk (kindOf k) 1 999 (x .own)
-  kind-ok Closed o = record { kind-is = refl; direction-low = omega arith; direction-high = omega arith; base-ok = refl; number-ok = own }
-  kind-ok (Open k d b s m) o =
-      record { kind-is = o .kind-is; direction-low = omega arith; direction-high = omega arith; base-ok = refl; number-ok = own }
+module _ (e : ℕ) (c : Channel) (ok : InRange c) where
+  -- the type of the talk in a call
+  kind-ok : (k : Call) → CallOk k → kindOf k ≡ general
+  kind-ok Closed o = refl
+  kind-ok (Open k d m b s) o = o .kind-is
 
   end-ok : (r : ℕ) → r ≤ 3 → (k : Call) → CallOk k → SendsOk (endOf r k)
   end-ok r h Closed o = tt
-  end-ok r h (Open k d b s m) o = ((o, omega arith, h), tt)
+  end-ok r h (Open k d m b s) o = ((o, omega arith, h), tt)
 
-  press-off-ok : SendsOk (pressOffSends x c)
-  press-off-ok = (tt, ((kind-ok (c .call) (ok .call-ok), omega arith), tt))
+  press-off-ok : (p : Party) → SendsOk (pressOffSends p (c .call))
+  press-off-ok Nobody = tt
+  press-off-ok (By d) = (tt, ((kind-ok (c .call) (ok .call-ok), omega arith), tt))
 
   off-ok : (a : Arrival) → ArrivalOk a → SendsOk (mobileOffSends a)
   off-ok Absent o = tt
-  off-ok (Present k b n m) o = (tt, ((o, omega arith), ((o, omega arith), tt)))
+  off-ok (Present k m b n) o = (tt, ((o, omega arith), ((o, omega arith), tt)))
 
-  freed-ok : SendsOk (freedSends x c)
-  freed-ok = ((own, omega arith), tt)
+  freed-ok : SendsOk (freedSends e c)
+  freed-ok = (omega arith, tt)
 
   -- a channel that has the code, call and arrival of c
   kept : (c′ : Channel) → c′ .code ≡ c .code → c′ .call ≡ c .call → c′ .arrival ≡ c .arrival → InRange c′
@@ -120,24 +124,24 @@ module _ (x : Context) (own : NumberOk (x .own)) (c : Channel) (ok : InRange c) 
   reply-ok true d = omega arith
   reply-ok false d = omega arith
 
-  captureAt-ok : (h : Holder) (d : ℕ) → Ranged (captureAt h x d c)
-  captureAt-ok Nobody d = record { next-ok = kept _ refl refl refl; sends-ok = (omega arith, ((own, omega arith), tt)) }
-  captureAt-ok (Held h) d = record { next-ok = ok; sends-ok = (reply-ok (eqb h d) d, tt) }
+  captureAt-ok : (h : Party) (d : ℕ) → Ranged (captureAt h e d c)
+  captureAt-ok Nobody d = record { next-ok = kept _ refl refl refl; sends-ok = (omega arith, (omega arith, tt)) }
+  captureAt-ok (By h) d = record { next-ok = ok; sends-ok = (reply-ok (eqb h d) d, tt) }
 
-  capture-ok : (d : ℕ) → Ranged (capture x d c)
+  capture-ok : (d : ℕ) → Ranged (capture e d c)
   unfolding capture
   capture-ok d = captureAt-ok (c .holder) d
 
-  cut-ok : Ranged (cut x c)
+  cut-ok : Ranged (cut e c)
   unfolding cut
   cut-ok = record {
     next-ok = record { code-ok = ok .code-ok; call-ok = tt; arrival-ok = ok .arrival-ok };
     sends-ok =
-        each-append SendOk (sentIf (c .pressed) (pressOffSends x c)) (endOf 1 (c .call) ++ freedSends x c) (either SendsOk (c .pressed) _ _ press-off-ok tt)
-        (each-append SendOk (endOf 1 (c .call)) (freedSends x c) (end-ok 1 (omega arith) (c .call) (ok .call-ok)) freed-ok);
+        each-append SendOk (pressOffSends (c .presser) (c .call)) (endOf 1 (c .call) ++ freedSends e c) (press-off-ok (c .presser))
+        (each-append SendOk (endOf 1 (c .call)) (freedSends e c) (end-ok 1 (omega arith) (c .call) (ok .call-ok)) freed-ok);
   }
 
-  release-ok : (d : ℕ) → Ranged (release x d c)
+  release-ok : (d : ℕ) → Ranged (release e d c)
   unfolding release
   release-ok d =
       either Ranged (heldBy d (c .holder)) _ _
@@ -147,40 +151,39 @@ module _ (x : Context) (own : NumberOk (x .own)) (c : Channel) (ok : InRange c) 
   -- a call that may have been opened, and its start
   opened-ok : (k new : Call) → CallOk k → CallOk new → CallOk (openedBy k new)
   opened-ok Closed new o p = p
-  opened-ok (Open k d b s m) new o p = o
+  opened-ok (Open k d m b s) new o p = o
 
   start-ok : (new : Call) → CallOk new → SendsOk (startOf new)
   start-ok Closed p = tt
-  start-ok (Open k d b s m) p = ((p, omega arith, omega arith), tt)
+  start-ok (Open k d m b s) p = ((p, omega arith, omega arith), tt)
 
   opening-ok : (k new : Call) → CallOk new → SendsOk (openingSends k new)
   opening-ok Closed new p = start-ok new p
-  opening-ok (Open k d b s m) new p = tt
+  opening-ok (Open k d m b s) new p = tt
 
-  own-talk : TalkOk 1 1 999 (x .own)
-  own-talk = kind-ok Closed tt
-
-  pressOn-ok : Ranged (pressOn x c)
+  pressOn-ok : (d : ℕ) (n : Number) → NumberOk n → Ranged (pressOn d n c)
   unfolding pressOn
-  pressOn-ok = record {
-    next-ok = record { code-ok = ok .code-ok; call-ok = opened-ok (c .call) (pressCall x c) (ok .call-ok) own-talk; arrival-ok = ok .arrival-ok };
-    sends-ok = (tt, each-append SendOk (openingSends (c .call) (pressCall x c)) _ (opening-ok (c .call) (pressCall x c) own-talk) ((kind-ok (c .call) (ok .call-ok), omega arith), tt));
-  }
+  pressOn-ok d n g =
+      let own : CallOk (pressCall d n) = record { kind-is = refl; direction-low = omega arith; direction-high = omega arith; base-ok = refl; number-ok = g } in
+      record {
+        next-ok = record { code-ok = ok .code-ok; call-ok = opened-ok (c .call) (pressCall d n) (ok .call-ok) own; arrival-ok = ok .arrival-ok };
+        sends-ok = (tt, each-append SendOk (openingSends (c .call) (pressCall d n)) _ (opening-ok (c .call) (pressCall d n) own) ((kind-ok (c .call) (ok .call-ok), omega arith), tt));
+      }
 
-  pressOff-ok : Ranged (pressOff x c)
+  pressOff-ok : Ranged (pressOff c)
   unfolding pressOff
-  pressOff-ok = record { next-ok = kept _ refl refl refl; sends-ok = press-off-ok }
+  pressOff-ok = record { next-ok = kept _ refl refl refl; sends-ok = press-off-ok (c .presser) }
 
   mobile-talk : (k : Call) → CallOk k → (b : ℕ) (n : Number) → b ≤ 29 → NumberOk n → TalkOk (kindOf k) 2 b n
   mobile-talk Closed o b n h g = record { kind-is = refl; direction-low = omega arith; direction-high = omega arith; base-ok = rw (le-leb b 29 h); number-ok = g }
-  mobile-talk (Open k d b′ s m) o b n h g =
+  mobile-talk (Open k d m b′ s) o b n h g =
       record { kind-is = o .kind-is; direction-low = omega arith; direction-high = omega arith; base-ok = rw (le-leb b 29 h); number-ok = g }
 
-  mobileOn-ok : (b : ℕ) (n : Number) → b ≤ 29 → NumberOk n → Ranged (mobileOn x b n c)
+  mobileOn-ok : (b : ℕ) (n : Number) → b ≤ 29 → NumberOk n → Ranged (mobileOn e b n c)
   unfolding mobileOn
   mobileOn-ok b n h g =
       let t = mobile-talk (c .call) (ok .call-ok) b n h g in
-      let new = mobileCall b n (mobileRecipients (c .holder) (x .listeners)) in
+      let new = mobileCall (mobileRecipients (c .holder) e) b n in
       let o : CallOk new = mobile-talk Closed tt b n h g in
       record {
         next-ok = record { code-ok = ok .code-ok; call-ok = opened-ok (c .call) new (ok .call-ok) o; arrival-ok = t };
@@ -198,37 +201,45 @@ module _ (x : Context) (own : NumberOk (x .own)) (c : Channel) (ok : InRange c) 
       (record { next-ok = record { code-ok = ok .code-ok; call-ok = tt; arrival-ok = ok .arrival-ok }; sends-ok = end-ok 3 (omega arith) (c .call) (ok .call-ok) })
       (record { next-ok = kept _ refl refl refl; sends-ok = tt })
 
-  tickRelease-ok : Ranged (tickRelease x c)
+  tickRelease-ok : Ranged (tickRelease e c)
   unfolding tickRelease
   tickRelease-ok =
       either Ranged (leb (c .release) 1) _ _ (record { next-ok = kept _ refl refl refl; sends-ok = freed-ok }) (record { next-ok = kept _ refl refl refl; sends-ok = tt })
 
-  tickIdle-ok : Ranged (tickIdle x c)
+  tickIdle-ok : Ranged (tickIdle e c)
   unfolding tickIdle
   tickIdle-ok = either Ranged (ltb 0 (c .quiet)) _ _ tickQuiet-ok (either Ranged (isHeld (c .holder)) _ _ tickRelease-ok plain-ok)
 
-  tick-ok : Ranged (tick x c)
+  tick-ok : Ranged (tick e c)
   unfolding tick
-  tick-ok = either Ranged (c .pressed) _ _ plain-ok (either Ranged (isPresent (c .arrival)) _ _ plain-ok tickIdle-ok)
+  tick-ok = either Ranged (isPressed c) _ _ plain-ok (either Ranged (isPresent (c .arrival)) _ _ plain-ok tickIdle-ok)
 
-  handover-ok : Ranged (handover x c)
-  unfolding handover
-  handover-ok = record {
-    next-ok = record { code-ok = ok .code-ok; call-ok = tt; arrival-ok = tt };
-    sends-ok =
-        each-append SendOk (sentIf (c .pressed) (pressOffSends x c)) _ (either SendsOk (c .pressed) _ _ press-off-ok tt)
-        (each-append SendOk (mobileOffSends (c .arrival)) _ (off-ok (c .arrival) (ok .arrival-ok))
-        (each-append SendOk (endOf 2 (c .call)) _ (end-ok 2 (omega arith) (c .call) (ok .call-ok)) (either SendsOk (isHeld (c .holder)) _ _ freed-ok tt)));
+  freed-in-range : InRange (freed c)
+  freed-in-range = record { code-ok = ok .code-ok; call-ok = tt; arrival-ok = tt }
+
+  endTalk-ok : Ranged (endTalk c)
+  unfolding endTalk
+  endTalk-ok = record {
+    next-ok = freed-in-range;
+    sends-ok = each-append SendOk (pressOffSends (c .presser) (c .call)) _ (press-off-ok (c .presser)) (off-ok (c .arrival) (ok .arrival-ok));
   }
 
-  pub happens-ranged : (v : Event) → Fits v c → Ranged (happens v x c)
+  endCall-ok : Ranged (endCall e c)
+  unfolding endCall
+  endCall-ok = record {
+    next-ok = freed-in-range;
+    sends-ok = each-append SendOk (endOf 2 (c .call)) _ (end-ok 2 (omega arith) (c .call) (ok .call-ok)) (either SendsOk (isHeld (c .holder)) _ _ freed-ok tt);
+  }
+
+  pub happens-ranged : (v : Event) → Fits v c → Ranged (happens v e c)
   unfolding happens
   happens-ranged (Capture d) h = capture-ok d
   happens-ranged (Release d) h = release-ok d
   happens-ranged Cut h = cut-ok
-  happens-ranged PressOn h = pressOn-ok
+  happens-ranged (PressOn d n) h = pressOn-ok d n (h .0)
   happens-ranged PressOff h = pressOff-ok
   happens-ranged (MobileOn b n) h = mobileOn-ok b n (h .0) (h .1)
   happens-ranged MobileOff h = mobileOff-ok
   happens-ranged Tick h = tick-ok
-  happens-ranged Handover h = handover-ok
+  happens-ranged EndTalk h = endTalk-ok
+  happens-ranged EndCall h = endCall-ok

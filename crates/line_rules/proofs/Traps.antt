@@ -3,6 +3,7 @@
 use Prim.Native.Nat.{ℕ}
 use mathlib.Core.List.{List, [], _∷_, _++_}
 use mathlib.Core.Bool.{true}
+use mathlib.Core.Logic.{inl, inr}
 use mathlib.Core.Path.{_≡_, refl, ap, _∙_}
 use lib.Dec.{ltb, leb}
 use lib.ListN.{replicate}
@@ -11,112 +12,129 @@ use Rattle.laws.proofs.Each.{each-append}
 use Rattle.laws.proofs.Tests.{either}
 use Rattle.telegram.specs.declared.message.Number.{Number}
 use Rattle.channel.specs.State.{only, isHeld, heldBy, holderPlace, isPresent}
-use Rattle.line_rules.specs.Rules.{Context, Step, to, sentIf, openingSends, endOf, pressOffSends, mobileOffSends, freedSends, capture, captureAt, cut, release, pressOn, pressCall, pressOff, mobileOn, mobileRecipients, mobileCall, mobileOff, tick, tickIdle, tickQuiet, tickRelease, handover, happens}
-use Rattle.line_rules.specs.Promises.{GoesTo, OnToTheHolder, OffToTheTold, ToldAreKept, IsAbout, AboutTheHolder, NumberForTheHolder, ArrivalOutlivesACut, OneTimerAtATime, TenAndAHundredAndThirty, quietly, sentByTicks}
-use Rattle.channel.specs.declared.state.Holder.{Holder}
-use Rattle.channel.specs.declared.state.Holder.the-variants.{Nobody, Held}
+use Rattle.line_rules.specs.Rules.{Step, to, openingSends, endOf, pressOffSends, mobileOffSends, freedSends, capture, captureAt, cut, release, pressOn, pressCall, pressOff, mobileOn, mobileRecipients, mobileCall, mobileOff, tick, tickIdle, tickQuiet, tickRelease, isPressed, endTalk, endCall, happens}
+use Rattle.line_rules.specs.Promises.{GoesTo, OnToTheHolder, OffToTheTold, ToldAreKept, IsAbout, Concerned, AboutTheHolder, NumberForTheHolder, ArrivalOutlivesACut, OneTimerAtATime, TenAndAHundredAndThirty, quietly, sentByTicks}
+use Rattle.channel.specs.declared.state.Party.{Party}
+use Rattle.channel.specs.declared.state.Party.the-variants.{Nobody, By}
 use Rattle.channel.specs.declared.state.Call.{Call}
 use Rattle.channel.specs.declared.state.Call.the-variants.{Closed, Open}
 use Rattle.channel.specs.declared.state.Send.{Send}
 use Rattle.channel.specs.declared.state.Arrival.{Arrival}
 use Rattle.channel.specs.declared.state.Arrival.the-variants.{Absent, Present}
 use Rattle.channel.specs.declared.state.Channel.{Channel}
-use Rattle.channel.specs.declared.state.Event.the-variants.{Capture, Release, Cut, PressOn, PressOff, MobileOn, MobileOff, Tick, Handover}
+use Rattle.channel.specs.declared.state.Event.the-variants.{Capture, Release, Cut, PressOn, PressOff, MobileOn, MobileOff, Tick, EndTalk, EndCall}
 use Rattle.channel.specs.declared.state.Notice.the-variants.{CaptureState}
 
 pub off-to-the-told : OffToTheTold
 unfolding mobileOff
-off-to-the-told c k b m n e = rw e
+off-to-the-told c k m b n e = rw e
 
-opening-to : (k : Call) (b m : ℕ) (n : Number) → Each (GoesTo m) (openingSends k (mobileCall b n m))
-opening-to Closed b m n = (refl, tt)
-opening-to (Open k d b′ s m′) b m n = tt
+opening-to : (k : Call) (m b : ℕ) (n : Number) → Each (GoesTo m) (openingSends k (mobileCall m b n))
+opening-to Closed m b n = (refl, tt)
+opening-to (Open k d m′ b′ s) m b n = tt
 
 pub on-to-the-holder : OnToTheHolder
 unfolding mobileOn
-on-to-the-holder x b n c d h =
-    let e : mobileRecipients (c .holder) (x .listeners) ≡ only d = rw h in
-    let m = mobileRecipients (c .holder) (x .listeners) in
-    let o : Each (GoesTo (only d)) (openingSends (c .call) (mobileCall b n m)) = rw e (opening-to (c .call) b (only d) n) in
-    (e, (e, each-append (GoesTo (only d)) (openingSends (c .call) (mobileCall b n m)) _ o (e, tt)))
+on-to-the-holder e b n c d h =
+    let m = mobileRecipients (c .holder) e in
+    let q : m ≡ only d = rw h in
+    let o : Each (GoesTo (only d)) (openingSends (c .call) (mobileCall m b n)) = rw q (opening-to (c .call) (only d) b n) in
+    (q, (q, each-append (GoesTo (only d)) (openingSends (c .call) (mobileCall m b n)) _ o (q, tt)))
 
 pub told-are-kept : ToldAreKept
 unfolding mobileOn
-told-are-kept x b n c =
-    let m = mobileRecipients (c .holder) (x .listeners) in
-    (refl, (refl, each-append (GoesTo m) (openingSends (c .call) (mobileCall b n m)) _ (opening-to (c .call) b m n) (refl, tt)))
+told-are-kept e b n c =
+    let m = mobileRecipients (c .holder) e in
+    (refl, (refl, each-append (GoesTo m) (openingSends (c .call) (mobileCall m b n)) _ (opening-to (c .call) m b n) (refl, tt)))
 
 -- ---- whom a 550651 is about
 
-module _ (d : ℕ) where
+module _ (P : ℕ → Type 0) where
   abbrev Said : List Send → Type 0
-  Said = Each (IsAbout d)
+  Said = Each (IsAbout P)
 
   abbrev Tells : Step → Type 0
   Tells st = Said (st .sends)
 
   about-opening : (k new : Call) → Said (openingSends k new)
   about-opening Closed Closed = tt
-  about-opening Closed (Open k w b s m) = (tt, tt)
-  about-opening (Open k w b s m) new = tt
+  about-opening Closed (Open k w m b s) = (tt, tt)
+  about-opening (Open k w m b s) new = tt
 
   about-end : (r : ℕ) (k : Call) → Said (endOf r k)
   about-end r Closed = tt
-  about-end r (Open k w b s m) = (tt, tt)
+  about-end r (Open k w m b s) = (tt, tt)
+
+  about-press-off : (p : Party) (k : Call) → Said (pressOffSends p k)
+  about-press-off Nobody k = tt
+  about-press-off (By h) k = (tt, (tt, tt))
 
   about-off : (a : Arrival) → Said (mobileOffSends a)
   about-off Absent = tt
-  about-off (Present k b n m) = (tt, (tt, (tt, tt)))
+  about-off (Present k m b n) = (tt, (tt, (tt, tt)))
 
-about-capture : (h : Holder) (x : Context) (d : ℕ) (c : Channel) → Tells d (captureAt h x d c)
-about-capture Nobody x d c = (tt, (refl, tt))
-about-capture (Held h) x d c = (tt, tt)
+  about-press-on : (d : ℕ) (n : Number) (c : Channel) → Tells (pressOn d n c)
+  unfolding pressOn
+  about-press-on d n c = (tt, each-append (IsAbout P) (openingSends (c .call) (pressCall d n)) _ (about-opening (c .call) (pressCall d n)) (tt, tt))
 
-about-cut : (x : Context) (c : Channel) → Tells (holderPlace (c .holder)) (cut x c)
-unfolding cut
-about-cut x c =
-    let d = holderPlace (c .holder) in
-    each-append (IsAbout d) (sentIf (c .pressed) (pressOffSends x c)) _ (either (Said d) (c .pressed) _ _ (tt, (tt, tt)) tt)
-    (each-append (IsAbout d) (endOf 1 (c .call)) (freedSends x c) (about-end d 1 (c .call)) (refl, tt))
+  about-mobile-on : (e b : ℕ) (n : Number) (c : Channel) → Tells (mobileOn e b n c)
+  unfolding mobileOn
+  about-mobile-on e b n c =
+      let new = mobileCall (mobileRecipients (c .holder) e) b n in
+      (tt, (tt, each-append (IsAbout P) (openingSends (c .call) new) _ (about-opening (c .call) new) (tt, tt)))
 
-about-tick : (x : Context) (c : Channel) → Tells (holderPlace (c .holder)) (tick x c)
-unfolding tick tickIdle tickQuiet tickRelease
-about-tick x c =
-    let d = holderPlace (c .holder) in
-    either (Tells d) (c .pressed) _ _ tt
-    (either (Tells d) (isPresent (c .arrival)) _ _ tt
-    (either (Tells d) (ltb 0 (c .quiet)) _ _
-    (either (Tells d) (leb (c .quiet) 1) _ _ (about-end d 3 (c .call)) tt)
-    (either (Tells d) (isHeld (c .holder)) _ _ (either (Tells d) (leb (c .release) 1) _ _ (refl, tt) tt) tt)))
+  about-endTalk : (c : Channel) → Tells (endTalk c)
+  unfolding endTalk
+  about-endTalk c = each-append (IsAbout P) (pressOffSends (c .presser) (c .call)) _ (about-press-off (c .presser) (c .call)) (about-off (c .arrival))
 
-about-handover : (x : Context) (c : Channel) → Tells (holderPlace (c .holder)) (handover x c)
-unfolding handover
-about-handover x c =
-    let d = holderPlace (c .holder) in
-    each-append (IsAbout d) (sentIf (c .pressed) (pressOffSends x c)) _ (either (Said d) (c .pressed) _ _ (tt, (tt, tt)) tt)
-    (each-append (IsAbout d) (mobileOffSends (c .arrival)) _ (about-off d (c .arrival))
-    (each-append (IsAbout d) (endOf 2 (c .call)) _ (about-end d 2 (c .call)) (either (Said d) (isHeld (c .holder)) _ _ (refl, tt) tt)))
+  -- what frees the channel is about its holder
+  module _ (e : ℕ) (c : Channel) (holder : P (holderPlace (c .holder))) where
+    about-cut : Tells (cut e c)
+    unfolding cut
+    about-cut =
+        each-append (IsAbout P) (pressOffSends (c .presser) (c .call)) _ (about-press-off (c .presser) (c .call))
+        (each-append (IsAbout P) (endOf 1 (c .call)) (freedSends e c) (about-end 1 (c .call)) (holder, tt))
+
+    about-release : (d : ℕ) → Tells (release e d c)
+    unfolding release
+    about-release d = either Tells (heldBy d (c .holder)) _ _ (tt, about-cut) (tt, tt)
+
+    about-tick : Tells (tick e c)
+    unfolding tick tickIdle tickQuiet tickRelease
+    about-tick =
+        either Tells (isPressed c) _ _ tt
+        (either Tells (isPresent (c .arrival)) _ _ tt
+        (either Tells (ltb 0 (c .quiet)) _ _
+        (either Tells (leb (c .quiet) 1) _ _ (about-end 3 (c .call)) tt)
+        (either Tells (isHeld (c .holder)) _ _ (either Tells (leb (c .release) 1) _ _ (holder, tt) tt) tt)))
+
+    about-endCall : Tells (endCall e c)
+    unfolding endCall
+    about-endCall = each-append (IsAbout P) (endOf 2 (c .call)) _ (about-end 2 (c .call)) (either Said (isHeld (c .holder)) _ _ (holder, tt) tt)
+
+about-capture : (h : Party) (e d : ℕ) (c : Channel) → Tells (Concerned (Capture d) c) (captureAt h e d c)
+about-capture Nobody e d c = (tt, (inr refl, tt))
+about-capture (By h) e d c = (tt, tt)
 
 pub about-the-holder : AboutTheHolder
-unfolding happens capture release pressOn pressOff mobileOn mobileOff
-about-the-holder (Capture d) x c = about-capture (c .holder) x d c
-about-the-holder (Release d) x c = either (Tells (holderPlace (c .holder))) (heldBy d (c .holder)) _ _ (tt, about-cut x c) (tt, tt)
-about-the-holder Cut x c = about-cut x c
-about-the-holder PressOn x c = (tt, each-append (IsAbout (holderPlace (c .holder))) (openingSends (c .call) (pressCall x c)) _ (about-opening (holderPlace (c .holder)) (c .call) (pressCall x c)) (tt, tt))
-about-the-holder PressOff x c = (tt, (tt, tt))
-about-the-holder (MobileOn b n) x c =
-    let m = mobileRecipients (c .holder) (x .listeners) in
-    (tt, (tt, each-append (IsAbout (holderPlace (c .holder))) (openingSends (c .call) (mobileCall b n m)) _ (about-opening (holderPlace (c .holder)) (c .call) (mobileCall b n m)) (tt, tt)))
-about-the-holder MobileOff x c = about-off (holderPlace (c .holder)) (c .arrival)
-about-the-holder Tick x c = about-tick x c
-about-the-holder Handover x c = about-handover x c
+unfolding happens capture pressOff mobileOff
+about-the-holder (Capture d) e c = about-capture (c .holder) e d c
+about-the-holder (Release d) e c = about-release _ e c (inl refl) d
+about-the-holder Cut e c = about-cut _ e c (inl refl)
+about-the-holder (PressOn d n) e c = about-press-on _ d n c
+about-the-holder PressOff e c = about-press-off _ (c .presser) (c .call)
+about-the-holder (MobileOn b n) e c = about-mobile-on _ e b n c
+about-the-holder MobileOff e c = about-off _ (c .arrival)
+about-the-holder Tick e c = about-tick _ e c (inl refl)
+about-the-holder EndTalk e c = about-endTalk _ c
+about-the-holder EndCall e c = about-endCall _ e c (inl refl)
 
 pub number-for-the-holder : NumberForTheHolder
-number-for-the-holder desk channel holder state n n′ h = rw h
+number-for-the-holder desk channel holder state own h = rw h
 
 pub arrival-outlives-a-cut : ArrivalOutlivesACut
 unfolding cut
-arrival-outlives-a-cut x c = refl
+arrival-outlives-a-cut e c = refl
 
 -- a step that leaves the release timer at r
 abbrev Leaves : ℕ → Step → Type 0
@@ -126,25 +144,25 @@ quiet-keeps : (c : Channel) → Leaves (c .release) (tickQuiet c)
 unfolding tickQuiet
 quiet-keeps c = either (Leaves (c .release)) (leb (c .quiet) 1) _ _ refl refl
 
-idle-keeps : (x : Context) (c : Channel) → ltb 0 (c .quiet) ≡ true → Leaves (c .release) (tickIdle x c)
+idle-keeps : (e : ℕ) (c : Channel) → ltb 0 (c .quiet) ≡ true → Leaves (c .release) (tickIdle e c)
 unfolding tickIdle
-idle-keeps x c q = rw q (quiet-keeps c)
+idle-keeps e c q = rw q (quiet-keeps c)
 
 pub one-timer-at-a-time : OneTimerAtATime
 unfolding tick
-one-timer-at-a-time x c q =
+one-timer-at-a-time e c q =
     let kept = Leaves (c .release) in
-    either kept (c .pressed) _ _ refl (either kept (isPresent (c .arrival)) _ _ refl (idle-keeps x c q))
+    either kept (isPressed c) _ _ refl (either kept (isPresent (c .arrival)) _ _ refl (idle-keeps e c q))
 
 -- ---- 130 ticks
 
-ticking : (x : Context) (code entitled d : ℕ) (k : Call)
-    → sentByTicks 130 x (quietly code entitled d k) ≡ replicate 9 [] ++ (endOf 3 k ∷ replicate 119 [] ++ ((to (x .listeners) (CaptureState d (x .own) 0) ∷ []) ∷ []))
+ticking : (e : ℕ) (code entitled d : ℕ) (k : Call)
+    → sentByTicks 130 e (quietly code entitled d k) ≡ replicate 9 [] ++ (endOf 3 k ∷ replicate 119 [] ++ ((to e (CaptureState d 0) ∷ []) ∷ []))
 unfolding quietly sentByTicks tick tickIdle tickQuiet tickRelease
-ticking x code entitled d k = refl
+ticking e code entitled d k = refl
 
 pub ten-and-a-hundred-and-thirty : TenAndAHundredAndThirty
 unfolding quietly pressOff
-ten-and-a-hundred-and-thirty x c d h a =
-    let e : pressOff x c .next ≡ quietly (c .code) (c .entitled) d (c .call) = rw (h, a) in
-    ap (sentByTicks 130 x) e ∙ ticking x (c .code) (c .entitled) d (c .call) ∙ rw h
+ten-and-a-hundred-and-thirty e c d h a =
+    let q : pressOff c .next ≡ quietly (c .code) (c .entitled) d (c .call) = rw (h, a) in
+    ap (sentByTicks 130 e) q ∙ ticking e (c .code) (c .entitled) d (c .call) ∙ rw h

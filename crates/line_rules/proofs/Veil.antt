@@ -7,17 +7,17 @@ use mathlib.Core.Path.{_≡_, refl, ap}
 use Rattle.laws.proofs.Tests.{cond-of}
 use Rattle.telegram.specs.declared.message.Number.{Number}
 use Rattle.channel.specs.State.{isIn, isPresent}
-use Rattle.line_rules.specs.Rules.{Context, Step, step, isOpen, openedBy, openingSends, endOf, kindOf, mobileOffSends, captureAt, capture, cut, release, pressOn, pressOff, mobileRecipients, mobileCall, mobileOn, mobileOff, tickQuiet, tickRelease, tickIdle, tick, handover, happens}
+use Rattle.line_rules.specs.Rules.{Step, step, isOpen, openedBy, openingSends, endOf, kindOf, pressOffSends, mobileOffSends, captureAt, capture, cut, release, pressOn, pressOff, mobileRecipients, mobileCall, mobileOn, mobileOff, tickQuiet, tickRelease, tickIdle, tick, endTalk, endCall, happens}
 use Rattle.line_rules.specs.Veil.{veil, hideCall, hideArrival, hide, hideSend, hideSends, hideStep}
-use Rattle.channel.specs.declared.state.Holder.{Holder}
-use Rattle.channel.specs.declared.state.Holder.the-variants.{Nobody, Held}
+use Rattle.channel.specs.declared.state.Party.{Party}
+use Rattle.channel.specs.declared.state.Party.the-variants.{Nobody, By}
 use Rattle.channel.specs.declared.state.Call.{Call}
 use Rattle.channel.specs.declared.state.Call.the-variants.{Closed, Open}
 use Rattle.channel.specs.declared.state.Arrival.{Arrival}
 use Rattle.channel.specs.declared.state.Arrival.the-variants.{Absent, Present}
 use Rattle.channel.specs.declared.state.Channel.{Channel}
 use Rattle.channel.specs.declared.state.Event.{Event}
-use Rattle.channel.specs.declared.state.Event.the-variants.{Capture, Release, Cut, PressOn, PressOff, MobileOn, MobileOff, Tick, Handover}
+use Rattle.channel.specs.declared.state.Event.the-variants.{Capture, Release, Cut, PressOn, PressOff, MobileOn, MobileOff, Tick, EndTalk, EndCall}
 use Rattle.channel.specs.declared.state.Send.{Send}
 
 veil-twice : (t : Bool) (n : Number) → veil t (veil t n) ≡ veil t n
@@ -30,71 +30,75 @@ module _ (B : ℕ) where
 
   call-twice : (k : Call) → hideCall B (hideCall B k) ≡ hideCall B k
   call-twice Closed = refl
-  call-twice (Open k d b s m) = ap (λ (n : Number). Open k d b n m) (veil-twice (isIn B m) s)
+  call-twice (Open k d m b s) = ap (Open k d m b) (veil-twice (isIn B m) s)
 
   arrival-twice : (a : Arrival) → hideArrival B (hideArrival B a) ≡ hideArrival B a
   arrival-twice Absent = refl
-  arrival-twice (Present k b n m) = ap (λ (j : Number). Present k b j m) (veil-twice (isIn B m) n)
+  arrival-twice (Present k m b n) = ap (Present k m b) (veil-twice (isIn B m) n)
 
   pub hide-twice : (c : Channel) → hide B (hide B c) ≡ hide B c
   hide-twice c = simp (call-twice, arrival-twice) refl
 
   open-hide : (k : Call) → isOpen (hideCall B k) ≡ isOpen k
   open-hide Closed = refl
-  open-hide (Open k d b s m) = refl
+  open-hide (Open k d m b s) = refl
 
   kind-hide : (k : Call) → kindOf (hideCall B k) ≡ kindOf k
   kind-hide Closed = refl
-  kind-hide (Open k d b s m) = refl
+  kind-hide (Open k d m b s) = refl
+
+  press-off-hide : (p : Party) (k : Call) → pressOffSends p (hideCall B k) ≡ pressOffSends p k
+  press-off-hide Nobody k = refl
+  press-off-hide (By d) k = rw (kind-hide k)
 
   pub present-hide : (a : Arrival) → isPresent (hideArrival B a) ≡ isPresent a
   present-hide Absent = refl
-  present-hide (Present k b n m) = refl
+  present-hide (Present k m b n) = refl
 
   opened-hide : (k new : Call) → hideCall B (openedBy (hideCall B k) new) ≡ hideCall B (openedBy k new)
   opened-hide Closed new = refl
-  opened-hide (Open k d b s m) new = call-twice (Open k d b s m)
+  opened-hide (Open k d m b s) new = call-twice (Open k d m b s)
 
   opening-hide : (k new : Call) → openingSends (hideCall B k) new ≡ openingSends k new
   opening-hide Closed new = refl
-  opening-hide (Open k d b s m) new = refl
+  opening-hide (Open k d m b s) new = refl
 
   end-hide : (r : ℕ) (k : Call) → hideSends B (endOf r (hideCall B k)) ≡ hideSends B (endOf r k)
   end-hide r Closed = refl
-  end-hide r (Open k d b s m) = simp veil-twice refl
+  end-hide r (Open k d m b s) = simp veil-twice refl
 
   off-hide : (a : Arrival) → hideSends B (mobileOffSends (hideArrival B a)) ≡ hideSends B (mobileOffSends a)
   off-hide Absent = refl
-  off-hide (Present k b n m) = simp veil-twice refl
+  off-hide (Present k m b n) = simp veil-twice refl
 
   -- ---- the rules, one by one
 
   still-hide : (c : Channel) (ss : List Send) → hideStep B (step (hide B c) ss) ≡ hideStep B (step c ss)
   still-hide c ss = simp (call-twice, arrival-twice) refl
 
-  captureAt-hide : (h : Holder) (x : Context) (d : ℕ) (c : Channel) → hideStep B (captureAt h x d (hide B c)) ≡ hideStep B (captureAt h x d c)
-  captureAt-hide Nobody x d c = simp (call-twice, arrival-twice) refl
-  captureAt-hide (Held h) x d c = simp (call-twice, arrival-twice) refl
+  captureAt-hide : (h : Party) (e : ℕ) (d : ℕ) (c : Channel) → hideStep B (captureAt h e d (hide B c)) ≡ hideStep B (captureAt h e d c)
+  captureAt-hide Nobody e d c = simp (call-twice, arrival-twice) refl
+  captureAt-hide (By h) e d c = simp (call-twice, arrival-twice) refl
 
-  capture-hide : (x : Context) (d : ℕ) (c : Channel) → hideStep B (capture x d (hide B c)) ≡ hideStep B (capture x d c)
+  capture-hide : (e : ℕ) (d : ℕ) (c : Channel) → hideStep B (capture e d (hide B c)) ≡ hideStep B (capture e d c)
   unfolding capture
-  capture-hide x d c = captureAt-hide (c .holder) x d c
+  capture-hide e d c = captureAt-hide (c .holder) e d c
 
-  cut-hide : (x : Context) (c : Channel) → hideStep B (cut x (hide B c)) ≡ hideStep B (cut x c)
+  cut-hide : (e : ℕ) (c : Channel) → hideStep B (cut e (hide B c)) ≡ hideStep B (cut e c)
   unfolding cut
-  cut-hide x c = simp (map-append (hideSend B), cond-of (hideSends B), kind-hide, end-hide, arrival-twice) refl
+  cut-hide e c = simp (map-append (hideSend B), press-off-hide, end-hide, arrival-twice) refl
 
-  pressOn-hide : (x : Context) (c : Channel) → hideStep B (pressOn x (hide B c)) ≡ hideStep B (pressOn x c)
+  pressOn-hide : (d : ℕ) (n : Number) (c : Channel) → hideStep B (pressOn d n (hide B c)) ≡ hideStep B (pressOn d n c)
   unfolding pressOn
-  pressOn-hide x c = simp (kind-hide, opening-hide, opened-hide, arrival-twice) refl
+  pressOn-hide d n c = simp (kind-hide, opening-hide, opened-hide, arrival-twice) refl
 
-  pressOff-hide : (x : Context) (c : Channel) → hideStep B (pressOff x (hide B c)) ≡ hideStep B (pressOff x c)
+  pressOff-hide : (c : Channel) → hideStep B (pressOff (hide B c)) ≡ hideStep B (pressOff c)
   unfolding pressOff
-  pressOff-hide x c = simp (kind-hide, present-hide, call-twice, arrival-twice) refl
+  pressOff-hide c = simp (press-off-hide, present-hide, call-twice, arrival-twice) refl
 
-  mobileOn-hide : (x : Context) (b : ℕ) (n : Number) (c : Channel) → hideStep B (mobileOn x b n (hide B c)) ≡ hideStep B (mobileOn x b n c)
+  mobileOn-hide : (e : ℕ) (b : ℕ) (n : Number) (c : Channel) → hideStep B (mobileOn e b n (hide B c)) ≡ hideStep B (mobileOn e b n c)
   unfolding mobileOn
-  mobileOn-hide x b n c = simp (kind-hide, opening-hide, opened-hide) refl
+  mobileOn-hide e b n c = simp (kind-hide, opening-hide, opened-hide) refl
 
   mobileOff-hide : (c : Channel) → hideStep B (mobileOff (hide B c)) ≡ hideStep B (mobileOff c)
   unfolding mobileOff
@@ -104,60 +108,65 @@ module _ (B : ℕ) where
   unfolding tickQuiet
   tickQuiet-hide c = simp (cond-of (hideStep B), end-hide, call-twice, arrival-twice) refl
 
-  tickRelease-hide : (x : Context) (c : Channel) → hideStep B (tickRelease x (hide B c)) ≡ hideStep B (tickRelease x c)
+  tickRelease-hide : (e : ℕ) (c : Channel) → hideStep B (tickRelease e (hide B c)) ≡ hideStep B (tickRelease e c)
   unfolding tickRelease
-  tickRelease-hide x c = simp (cond-of (hideStep B), call-twice, arrival-twice) refl
+  tickRelease-hide e c = simp (cond-of (hideStep B), call-twice, arrival-twice) refl
 
-  tickIdle-hide : (x : Context) (c : Channel) → hideStep B (tickIdle x (hide B c)) ≡ hideStep B (tickIdle x c)
+  tickIdle-hide : (e : ℕ) (c : Channel) → hideStep B (tickIdle e (hide B c)) ≡ hideStep B (tickIdle e c)
   unfolding tickIdle
-  tickIdle-hide x c = simp (cond-of (hideStep B), tickQuiet-hide c, tickRelease-hide x c, still-hide c []) refl
+  tickIdle-hide e c = simp (cond-of (hideStep B), tickQuiet-hide c, tickRelease-hide e c, still-hide c []) refl
 
-  tick-hide : (x : Context) (c : Channel) → hideStep B (tick x (hide B c)) ≡ hideStep B (tick x c)
+  tick-hide : (e : ℕ) (c : Channel) → hideStep B (tick e (hide B c)) ≡ hideStep B (tick e c)
   unfolding tick
-  tick-hide x c = simp (cond-of (hideStep B), present-hide, tickIdle-hide x c, still-hide c []) refl
+  tick-hide e c = simp (cond-of (hideStep B), present-hide, tickIdle-hide e c, still-hide c []) refl
 
-  handover-hide : (x : Context) (c : Channel) → hideStep B (handover x (hide B c)) ≡ hideStep B (handover x c)
-  unfolding handover
-  handover-hide x c = simp (map-append (hideSend B), cond-of (hideSends B), kind-hide, off-hide, end-hide) refl
+  endTalk-hide : (c : Channel) → hideStep B (endTalk (hide B c)) ≡ hideStep B (endTalk c)
+  unfolding endTalk
+  endTalk-hide c = simp (map-append (hideSend B), press-off-hide, off-hide) refl
 
-  release-hide : (x : Context) (d : ℕ) (c : Channel) → hideStep B (release x d (hide B c)) ≡ hideStep B (release x d c)
+  endCall-hide : (e : ℕ) (c : Channel) → hideStep B (endCall e (hide B c)) ≡ hideStep B (endCall e c)
+  unfolding endCall
+  endCall-hide e c = simp (map-append (hideSend B), cond-of (hideSends B), end-hide) refl
+
+  release-hide : (e : ℕ) (d : ℕ) (c : Channel) → hideStep B (release e d (hide B c)) ≡ hideStep B (release e d c)
   unfolding release
-  release-hide x d c =
-      let k = cut-hide x c in
-      let n : hide B (cut x (hide B c) .next) ≡ hide B (cut x c .next) = ap (λ (st : Step). st .next) k in
-      let s : hideSends B (cut x (hide B c) .sends) ≡ hideSends B (cut x c .sends) = ap (λ (st : Step). st .sends) k in
+  release-hide e d c =
+      let k = cut-hide e c in
+      let n : hide B (cut e (hide B c) .next) ≡ hide B (cut e c .next) = ap (λ (st : Step). st .next) k in
+      let s : hideSends B (cut e (hide B c) .sends) ≡ hideSends B (cut e c .sends) = ap (λ (st : Step). st .sends) k in
       simp (cond-of (hideStep B), n, s, call-twice, arrival-twice) refl
 
   -- A rule goes by what is left of the channel.
-  pub happens-hide : (v : Event) (x : Context) (c : Channel) → hideStep B (happens v x (hide B c)) ≡ hideStep B (happens v x c)
+  pub happens-hide : (v : Event) (e : ℕ) (c : Channel) → hideStep B (happens v e (hide B c)) ≡ hideStep B (happens v e c)
   unfolding happens
-  happens-hide (Capture d) x c = capture-hide x d c
-  happens-hide (Release d) x c = release-hide x d c
-  happens-hide Cut x c = cut-hide x c
-  happens-hide PressOn x c = pressOn-hide x c
-  happens-hide PressOff x c = pressOff-hide x c
-  happens-hide (MobileOn b n) x c = mobileOn-hide x b n c
-  happens-hide MobileOff x c = mobileOff-hide c
-  happens-hide Tick x c = tick-hide x c
-  happens-hide Handover x c = handover-hide x c
+  happens-hide (Capture d) e c = capture-hide e d c
+  happens-hide (Release d) e c = release-hide e d c
+  happens-hide Cut e c = cut-hide e c
+  happens-hide (PressOn d n) e c = pressOn-hide d n c
+  happens-hide PressOff e c = pressOff-hide c
+  happens-hide (MobileOn b n) e c = mobileOn-hide e b n c
+  happens-hide MobileOff e c = mobileOff-hide c
+  happens-hide Tick e c = tick-hide e c
+  happens-hide EndTalk e c = endTalk-hide c
+  happens-hide EndCall e c = endCall-hide e c
 
   -- ---- a mobile's number is hidden from B where its recipients lack B
 
-  opened-number : (k : Call) (b m : ℕ) (n n′ : Number) → isIn B m ≡ false → hideCall B (openedBy k (mobileCall b n m)) ≡ hideCall B (openedBy k (mobileCall b n′ m))
+  opened-number : (k : Call) (m b : ℕ) (n n′ : Number) → isIn B m ≡ false → hideCall B (openedBy k (mobileCall m b n)) ≡ hideCall B (openedBy k (mobileCall m b n′))
   unfolding veil
-  opened-number Closed b m n n′ h = rw h refl
-  opened-number (Open k d b′ s m′) b m n n′ h = refl
+  opened-number Closed m b n n′ h = rw h refl
+  opened-number (Open k d m′ b′ s) m b n n′ h = refl
 
-  opening-number : (k : Call) (b m : ℕ) (n n′ : Number) → isIn B m ≡ false → hideSends B (openingSends k (mobileCall b n m)) ≡ hideSends B (openingSends k (mobileCall b n′ m))
+  opening-number : (k : Call) (m b : ℕ) (n n′ : Number) → isIn B m ≡ false → hideSends B (openingSends k (mobileCall m b n)) ≡ hideSends B (openingSends k (mobileCall m b n′))
   unfolding veil
-  opening-number Closed b m n n′ h = rw h refl
-  opening-number (Open k d b′ s m′) b m n n′ h = refl
+  opening-number Closed m b n n′ h = rw h refl
+  opening-number (Open k d m′ b′ s) m b n n′ h = refl
 
-  pub number-hidden : (x : Context) (b : ℕ) (n n′ : Number) (c : Channel) → isIn B (mobileRecipients (c .holder) (x .listeners)) ≡ false
-      → hideStep B (mobileOn x b n c) ≡ hideStep B (mobileOn x b n′ c)
+  pub number-hidden : (e : ℕ) (b : ℕ) (n n′ : Number) (c : Channel) → isIn B (mobileRecipients (c .holder) e) ≡ false
+      → hideStep B (mobileOn e b n c) ≡ hideStep B (mobileOn e b n′ c)
   unfolding mobileOn veil
-  number-hidden x b n n′ c h =
-      let m = mobileRecipients (c .holder) (x .listeners) in
-      let o = opened-number (c .call) b m n n′ h in
-      let s = opening-number (c .call) b m n n′ h in
+  number-hidden e b n n′ c h =
+      let m = mobileRecipients (c .holder) e in
+      let o = opened-number (c .call) m b n n′ h in
+      let s = opening-number (c .call) m b n n′ h in
       simp (map-append (hideSend B)) (simp (o, s, h) refl)

@@ -9,17 +9,18 @@ use Rattle.fields.specs.Fields.{between}
 use Rattle.telegram.specs.Telegram.{inRange}
 use Rattle.telegram.specs.declared.message.Number.{Number}
 use Rattle.channel.specs.State.{isHeld, isPresent}
+use Rattle.channel.specs.declared.state.Party.the-variants.{By}
 use Rattle.channel.specs.declared.state.Call.{Call}
 use Rattle.channel.specs.declared.state.Call.the-variants.{Closed, Open}
 use Rattle.channel.specs.declared.state.Arrival.{Arrival}
 use Rattle.channel.specs.declared.state.Arrival.the-variants.{Absent, Present}
 use Rattle.channel.specs.declared.state.Channel.{Channel}
 use Rattle.channel.specs.declared.state.Event.{Event}
-use Rattle.channel.specs.declared.state.Event.the-variants.{Capture, Release, Cut, PressOn, PressOff, MobileOn, MobileOff, Tick, Handover}
+use Rattle.channel.specs.declared.state.Event.the-variants.{Capture, Release, Cut, PressOn, PressOff, MobileOn, MobileOff, Tick, EndTalk, EndCall}
 use Rattle.channel.specs.declared.state.Notice.{Notice}
-use Rattle.channel.specs.declared.state.Notice.the-variants.{PressAnswer, Incoming, BaseArrival, Call as CallNotice, CallerNotice, CaptureReply, CaptureState}
+use Rattle.channel.specs.declared.state.Notice.the-variants.{PressAnswer, Incoming, BaseArrival, Call as CallNotice, PressNotice, CallerNotice, CaptureReply, CaptureState}
 use Rattle.channel.specs.declared.state.Send.{Send}
-use Rattle.line_rules.specs.Rules.{Step, general, isOpen}
+use Rattle.line_rules.specs.Rules.{Step, general, isOpen, isPressed}
 use Rattle.line_rules.specs.Notices.{Content, telegram, contact}
 
 -- ---- numbers and codes in range
@@ -42,11 +43,11 @@ pub record TalkOk (kind direction base : ℕ) (n : Number) : Type 0 where
 
 abbrev pub CallOk : Call → Type 0
 CallOk Closed = Unit {0}
-CallOk (Open k d b s m) = TalkOk k d b s
+CallOk (Open k d m b s) = TalkOk k d b s
 
 abbrev pub ArrivalOk : Arrival → Type 0
 ArrivalOk Absent = Unit {0}
-ArrivalOk (Present k b n m) = TalkOk k 2 b n
+ArrivalOk (Present k m b n) = TalkOk k 2 b n
 
 pub record InRange (c : Channel) : Type 0 where
   pub code-ok : c .code ≤ 99
@@ -57,12 +58,12 @@ pub record InRange (c : Channel) : Type 0 where
 
 pub record Timed (c : Channel) : Type 0 where
   -- the quiet timer runs exactly when a call is open, nothing pressed and no arrival
-  pub quiet-runs : ltb 0 (c .quiet) ≡ (isOpen (c .call) && (not (c .pressed) && not (isPresent (c .arrival))))
+  pub quiet-runs : ltb 0 (c .quiet) ≡ (isOpen (c .call) && (not (isPressed c) && not (isPresent (c .arrival))))
   -- the release timer runs exactly when the channel is held
   pub release-runs : ltb 0 (c .release) ≡ isHeld (c .holder)
-  -- pressed implies held and a call open
-  pub pressed-held : c .pressed ≡ true → isHeld (c .holder) ≡ true
-  pub pressed-open : c .pressed ≡ true → isOpen (c .call) ≡ true
+  -- who presses is the holder, and a call is open
+  pub presser-holds : isPressed c ≡ true → c .presser ≡ c .holder
+  pub pressed-open : isPressed c ≡ true → isOpen (c .call) ≡ true
 
 -- ---- all that holds of a channel
 
@@ -70,17 +71,19 @@ pub record ChannelOk (c : Channel) : Type 0 where
   pub in-range : InRange c
   pub timed : Timed c
 
--- what an accepted entry makes sure of before an event: a mobile's base and number, and that a press is the holder's and new
+-- what an accepted entry makes sure of before an event: numbers and a mobile's base in range, and that a press is the holder's
+-- and new
 abbrev pub Fits : Event → Channel → Type 0
 Fits (Capture d) c = Unit {0}
 Fits (Release d) c = Unit {0}
 Fits Cut c = Unit {0}
-Fits PressOn c = isHeld (c .holder) ≡ true
-Fits PressOff c = c .pressed ≡ true
+Fits (PressOn d n) c = NumberOk n × (c .holder ≡ By d)
+Fits PressOff c = isPressed c ≡ true
 Fits (MobileOn b n) c = (b ≤ 29) × NumberOk n
 Fits MobileOff c = Unit {0}
 Fits Tick c = Unit {0}
-Fits Handover c = Unit {0}
+Fits EndTalk c = Unit {0}
+Fits EndCall c = Unit {0}
 
 -- ---- what is sent
 
@@ -89,9 +92,10 @@ NoticeOk (PressAnswer on) = Unit {0}
 NoticeOk (Incoming on) = Unit {0}
 NoticeOk (BaseArrival k b n o) = TalkOk k 2 b n × (o ≤ 1)
 NoticeOk (CallNotice k d b s t r) = TalkOk k d b s × (t ≤ 1) × (r ≤ 3)
-NoticeOk (CallerNotice k d b n o) = TalkOk k d b n × (o ≤ 1)
+NoticeOk (PressNotice k o) = (k ≡ general) × (o ≤ 1)
+NoticeOk (CallerNotice k b n o) = TalkOk k 2 b n × (o ≤ 1)
 NoticeOk (CaptureReply r) = r ≤ 1
-NoticeOk (CaptureState h n s) = NumberOk n × (s ≤ 1)
+NoticeOk (CaptureState h s) = s ≤ 1
 
 abbrev pub SendOk : Send → Type 0
 SendOk s = NoticeOk (s .notice)

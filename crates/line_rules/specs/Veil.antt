@@ -13,7 +13,7 @@ use Rattle.channel.specs.declared.state.Arrival.{Arrival}
 use Rattle.channel.specs.declared.state.Arrival.the-variants.{Absent, Present}
 use Rattle.channel.specs.declared.state.Channel.{Channel}
 use Rattle.channel.specs.declared.state.Notice.{Notice}
-use Rattle.channel.specs.declared.state.Notice.the-variants.{PressAnswer, Incoming, BaseArrival, Call as CallNotice, CallerNotice, CaptureReply, CaptureState}
+use Rattle.channel.specs.declared.state.Notice.the-variants.{PressAnswer, Incoming, BaseArrival, Call as CallNotice, PressNotice, CallerNotice, CaptureReply, CaptureState}
 use Rattle.channel.specs.declared.state.Send.{Send}
 
 -- a number that is hidden unless seen
@@ -24,24 +24,25 @@ veil false n = num 0
 module _ (B : ℕ) where
   abbrev pub hideCall : Call → Call
   hideCall Closed = Closed
-  hideCall (Open k d b s m) = Open k d b (veil (isIn B m) s) m
+  hideCall (Open k d m b s) = Open k d m b (veil (isIn B m) s)
 
   abbrev pub hideArrival : Arrival → Arrival
   hideArrival Absent = Absent
-  hideArrival (Present k b n m) = Present k b (veil (isIn B m) n) m
+  hideArrival (Present k m b n) = Present k m b (veil (isIn B m) n)
 
   abbrev pub hide : Channel → Channel
   hide c =
-      record { code = c .code; entitled = c .entitled; holder = c .holder; pressed = c .pressed; call = hideCall (c .call); arrival = hideArrival (c .arrival); quiet = c .quiet; release = c .release }
+      record { code = c .code; entitled = c .entitled; holder = c .holder; presser = c .presser; quiet = c .quiet; release = c .release; call = hideCall (c .call); arrival = hideArrival (c .arrival) }
 
   abbrev pub hideNotice : Bool → Notice → Notice
   hideNotice t (PressAnswer on) = PressAnswer on
   hideNotice t (Incoming on) = Incoming on
   hideNotice t (BaseArrival k b n o) = BaseArrival k b (veil t n) o
   hideNotice t (CallNotice k d b s st r) = CallNotice k d b (veil t s) st r
-  hideNotice t (CallerNotice k d b n o) = CallerNotice k d b (veil t n) o
+  hideNotice t (PressNotice k o) = PressNotice k o
+  hideNotice t (CallerNotice k b n o) = CallerNotice k b (veil t n) o
   hideNotice t (CaptureReply r) = CaptureReply r
-  hideNotice t (CaptureState h n s) = CaptureState h n s
+  hideNotice t (CaptureState h s) = CaptureState h s
 
   abbrev pub hideSend : Send → Send
   hideSend s = to (s .recipients) (hideNotice (isIn B (s .recipients)) (s .notice))

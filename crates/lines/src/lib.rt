@@ -1,7 +1,6 @@
 // What happens on a channel by its event, as code: the channel after it, and what it sends. Capture, cut and release are in
-// `holding`, press and mobile in `talk`; the tick and the handover are here.
+// `holding`, press and mobile in `talk`; the tick and what ends all are here.
 mod rules;
 mod ticking;
 
 pub use rules::happens;
-pub use rules::sends_any;

@@ -5,9 +5,13 @@ use mathlib.Core.List.{List, [], _∷_, _++_, append-assoc, append-nil}
 use mathlib.Core.Bool.{Bool, true, false, cond}
 use mathlib.Core.Path.{_≡_, refl}
 use lib.Dec.{eqb}
-use Rattle.line_rules.specs.Rules.{to, sentIf}
+use Rattle.line_rules.specs.Rules.{to, sentIf, setOf, kindOf, pressOffSends}
 use Rattle.sends.specs.Scripts.{heard}
+use Rattle.channel.specs.declared.state.Party.{Party}
+use Rattle.channel.specs.declared.state.Party.the-variants.{Nobody, By}
+use Rattle.channel.specs.declared.state.Call.{Call}
 use Rattle.channel.specs.declared.state.Notice.{Notice}
+use Rattle.channel.specs.declared.state.Notice.the-variants.{PressAnswer, PressNotice}
 use Rattle.channel.specs.declared.state.Send.{Send}
 
 -- what comes after a send that may be left out
@@ -46,7 +50,8 @@ unfolding heardOf heard
 heard-sentIf true m n = refl
 heard-sentIf false m n = refl
 
-pub heard-sentIf-two : (t : Bool) (m : ℕ) (n n′ : Notice)
-    → heard (sentIf t (to m n ∷ to m n′ ∷ [])) ≡ heardOf (to (cond t m 0) n) ++ heardOf (to (cond t m 0) n′)
-heard-sentIf-two true m n n′ = simp send-by-send refl
-heard-sentIf-two false m n n′ = simp send-by-send refl
+-- what ends a press is heard like what is sent to who presses, as a set
+pub heard-press-off : (p : Party) (k : Call)
+    → heard (pressOffSends p k) ≡ heardOf (to (setOf p) (PressAnswer 0)) ++ heardOf (to (setOf p) (PressNotice (kindOf k) 0))
+heard-press-off Nobody k = simp send-by-send refl
+heard-press-off (By d) k = simp send-by-send refl

@@ -1,10 +1,10 @@
 // What rules choose by the parts of a channel.
 use channel::Call;
-use channel::Holder;
+use channel::Party;
 use channel::only;
 ghost use mathlib.Core.Path.{_≡_};
 ghost use mathlib.Core.Bool.{cond};
-ghost use Rattle.line_rules.specs.Rules.{holderSet, isOpen, kindOf};
+ghost use Rattle.line_rules.specs.Rules.{setOf, isOpen, kindOf};
 
 // The type of every call (01: "Type is always 1").
 pub const GENERAL: u8 = 1;
@@ -21,13 +21,13 @@ pub fn is_open(call: Call) -> bool
     }
 }
 
-// The holder alone, as a set.
-pub fn holder_set(holder: Holder) -> u8
-    ensures { λ r. ⌜ r ≡ holderSet holder ⌝ }
+// A desk or none, as a set.
+pub fn set_of(party: Party) -> u8
+    ensures { λ r. ⌜ r ≡ setOf party ⌝ }
 {
-    match holder {
-        Holder::Nobody => NOBODY,
-        Holder::Held(d) => only(d),
+    match party {
+        Party::Nobody => NOBODY,
+        Party::By(d) => only(d),
     }
 }
 

@@ -3,16 +3,13 @@ mod choices;
 mod sends;
 
 pub use choices::GENERAL;
-pub use choices::holder_set;
 pub use choices::is_open;
 pub use choices::kind_of;
 pub use choices::set_if;
-pub use sends::DESK;
-pub use sends::DOWN;
+pub use choices::set_of;
 pub use sends::MobileSends;
 pub use sends::PressSends;
 pub use sends::SILENT;
-pub use sends::UP;
 pub use sends::alone;
 pub use sends::end;
 pub use sends::freed;

@@ -5,9 +5,9 @@ use super::choices::kind_of;
 use channel::Arrival;
 use channel::Call;
 use channel::Channel;
-use channel::Holder;
 use channel::Moved;
 use channel::Notice;
+use channel::Party;
 use channel::Send;
 use channel::holder_place;
 use telegram::Number;
@@ -17,13 +17,6 @@ ghost use Rattle.channel.specs.State.{holderPlace};
 ghost use Rattle.line_rules.specs.Rules.{step, to, startOf, openingSends, endOf, mobileOffSends};
 ghost use Rattle.sends.specs.Scripts.{Follows, heard, pressSends, mobileSends};
 ghost use Rattle.channel.specs.declared.state.Notice.the-variants.{CaptureState};
-
-pub const DOWN: u8 = 1;
-
-pub const UP: u8 = 2;
-
-// The base of what a desk says.
-pub const DESK: u16 = 999;
 
 // Stands where a rule sends nothing.
 pub const SILENT: Send = Send {
@@ -40,9 +33,9 @@ fn start(call: Call) -> Send
         Call::Open {
             kind,
             direction,
+            recipients,
             base,
             source,
-            recipients,
         } => Send {
             recipients,
             notice: Notice::Call {
@@ -76,9 +69,9 @@ pub fn end(reason: u8, call: Call) -> Send
         Call::Open {
             kind,
             direction,
+            recipients,
             base,
             source,
-            recipients,
         } => Send {
             recipients,
             notice: Notice::Call {
@@ -93,14 +86,14 @@ pub fn end(reason: u8, call: Call) -> Send
     }
 }
 
-// What is sent when a holder starts to talk (`on` is 1) or ends.
+// What is sent to a desk that presses (`on` is 1) or no longer does.
 pub struct PressSends {
     pub answer: Send,
     pub talk: Send,
 }
 
-pub fn press_sends(on: u8, recipients: u8, own: Number, call: Call) -> PressSends
-    ensures { λ r. ⌜ r ≡ pressSends on recipients own call ⌝ }
+pub fn press_sends(on: u8, recipients: u8, call: Call) -> PressSends
+    ensures { λ r. ⌜ r ≡ pressSends on recipients call ⌝ }
 {
     let kind = kind_of(call);
     PressSends {
@@ -110,13 +103,7 @@ pub fn press_sends(on: u8, recipients: u8, own: Number, call: Call) -> PressSend
         },
         talk: Send {
             recipients,
-            notice: Notice::CallerNotice {
-                kind,
-                direction: DOWN,
-                base: DESK,
-                number: own,
-                order: on,
-            },
+            notice: Notice::PressNotice { kind, order: on },
         },
     }
 }
@@ -149,7 +136,6 @@ pub fn mobile_sends(on: u8, kind: u8, base: u16, number: Number, recipients: u8)
             recipients,
             notice: Notice::CallerNotice {
                 kind,
-                direction: UP,
                 base,
                 number,
                 order: on,
@@ -166,23 +152,22 @@ pub fn mobile_off_sends(arrival: Arrival) -> MobileSends
         Arrival::Absent => mobile_sends(0, GENERAL, 0, Number::NONE, NOBODY),
         Arrival::Present {
             kind,
+            recipients,
             base,
             number,
-            recipients,
         } => mobile_sends(0, kind, base, number, recipients),
     }
 }
 
-// That the channel is free. The holder's number goes to the holder alone, so the notice has the holder's place too.
-pub fn freed(recipients: u8, own: Number, holder: Holder) -> Send
-    ensures { λ r. ⌜ r ≡ to recipients (CaptureState (holderPlace holder) own 0) ⌝ }
+// That the channel is free. It has the holder's place, since the holder gets its own number with it and no other desk does.
+pub fn freed(recipients: u8, holder: Party) -> Send
+    ensures { λ r. ⌜ r ≡ to recipients (CaptureState (holderPlace holder) 0) ⌝ }
 {
     let place = holder_place(holder);
     Send {
         recipients,
         notice: Notice::CaptureState {
             holder: place,
-            number: own,
             state: 0,
         },
     }

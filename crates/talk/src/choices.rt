@@ -2,12 +2,12 @@
 use channel::Arrival;
 use channel::Call;
 use channel::Channel;
-use channel::Holder;
+use channel::Party;
 use channel::is_held;
 use channel::is_present;
 use sends::GENERAL;
-use sends::holder_set;
 use sends::is_open;
+use sends::set_of;
 use telegram::Number;
 ghost use mathlib.Core.Path.{_≡_};
 ghost use mathlib.Core.Bool.{cond};
@@ -15,27 +15,34 @@ ghost use Rattle.channel.specs.State.{isHeld, isPresent};
 ghost use Rattle.line_rules.specs.Rules.{quietTime, releaseTime, general, isOpen, openedBy, mobileRecipients};
 ghost use Rattle.channel.specs.declared.state.Call.the-variants.{Open};
 
+pub const DOWN: u8 = 1;
+
+pub const UP: u8 = 2;
+
+// The base of what a desk says.
+pub const DESK: u16 = 999;
+
 // Whom a mobile on is told to: the holder alone if held.
-pub fn mobile_recipients(holder: Holder, listeners: u8) -> u8
+pub fn mobile_recipients(holder: Party, listeners: u8) -> u8
     ensures { λ r. ⌜ r ≡ mobileRecipients holder listeners ⌝ }
 {
-    let alone = holder_set(holder);
+    let alone = set_of(holder);
     match holder {
-        Holder::Nobody => listeners,
-        Holder::Held(_) => alone,
+        Party::Nobody => listeners,
+        Party::By(_) => alone,
     }
 }
 
-// The call that a holder or a mobile opens.
-pub fn new_call(direction: u8, base: u16, source: Number, recipients: u8) -> Call
-    ensures { λ r. ⌜ r ≡ Open general direction base source recipients ⌝ }
+// The call that a desk or a mobile opens.
+pub fn new_call(direction: u8, recipients: u8, base: u16, source: Number) -> Call
+    ensures { λ r. ⌜ r ≡ Open general direction recipients base source ⌝ }
 {
     Call::Open {
         kind: GENERAL,
         direction,
+        recipients,
         base,
         source,
-        recipients,
     }
 }
 
@@ -60,19 +67,23 @@ pub fn quiet_after_press(arrival: Arrival, quiet: u8) -> u8
     }
 }
 
-// The quiet timer after a mobile off: it waits for a holder who talks.
-pub fn quiet_after_mobile(call: Call, pressed: bool, quiet: u8) -> u8
-    ensures { λ r. ⌜ r ≡ cond (isOpen call) (cond pressed quiet quietTime) quiet ⌝ }
+// The quiet timer after a mobile off: it waits for a desk that presses.
+pub fn quiet_after_mobile(call: Call, presser: Party, quiet: u8) -> u8
+    ensures { λ r. ⌜ r ≡ cond (isOpen call) (cond (isHeld presser) quiet quietTime) quiet ⌝ }
 {
     if is_open(call) {
-        if pressed { quiet } else { Channel::QUIET }
+        if is_held(presser) {
+            quiet
+        } else {
+            Channel::QUIET
+        }
     } else {
         quiet
     }
 }
 
 // The release timer after a mobile on or off: only a holder has one.
-pub fn release_after(holder: Holder, release: u8) -> u8
+pub fn release_after(holder: Party, release: u8) -> u8
     ensures { λ r. ⌜ r ≡ cond (isHeld holder) releaseTime release ⌝ }
 {
     if is_held(holder) {

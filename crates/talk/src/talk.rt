@@ -1,4 +1,7 @@
-// Talk on a channel: the rules for a holder's press and for a mobile.
+// Talk on a channel: the rules for a desk's press and for a mobile.
+use super::choices::DESK;
+use super::choices::DOWN;
+use super::choices::UP;
 use super::choices::mobile_recipients;
 use super::choices::new_call;
 use super::choices::opened_by;
@@ -8,31 +11,29 @@ use super::choices::release_after;
 use channel::Arrival;
 use channel::Channel;
 use channel::Moved;
-use sends::DESK;
-use sends::DOWN;
+use channel::Party;
+use channel::only;
 use sends::SILENT;
-use sends::UP;
-use sends::holder_set;
 use sends::kind_of;
 use sends::mobile_off_sends;
 use sends::mobile_sends;
 use sends::opening;
 use sends::press_sends;
+use sends::set_of;
 use telegram::Number;
-ghost use Rattle.telegram.specs.Telegram.{num};
 ghost use Rattle.line_rules.specs.Rules.{pressOn, pressOff, mobileOn, mobileOff};
-ghost use Rattle.sends.specs.Scripts.{Follows, context};
+ghost use Rattle.sends.specs.Scripts.{Follows};
 
 // Talk stops the quiet timer, and the release timer starts anew.
-pub fn press_on(own: Number, channel: Channel) -> Moved
-    ensures { λ r. ⌜ Follows r (pressOn (context 0 own) channel) ⌝ }
+pub fn press_on(d: u8, number: Number, channel: Channel) -> Moved
+    ensures { λ r. ⌜ Follows r (pressOn d number channel) ⌝ }
 {
     let holder = channel.holder;
     let before = channel.call;
     let arrival = channel.arrival;
-    let recipients = holder_set(holder);
-    let new = new_call(DOWN, DESK, own, recipients);
-    let on = press_sends(1, recipients, own, before);
+    let recipients = only(d);
+    let new = new_call(DOWN, recipients, DESK, number);
+    let on = press_sends(1, recipients, before);
     let answer = on.answer;
     let start = opening(before, new);
     let talk = on.talk;
@@ -43,24 +44,24 @@ pub fn press_on(own: Number, channel: Channel) -> Moved
             code: channel.code,
             entitled: channel.entitled,
             holder,
-            pressed: true,
-            call,
-            arrival,
+            presser: Party::By(d),
             quiet,
             release: Channel::RELEASE,
+            call,
+            arrival,
         },
         sends: [answer, start, talk, SILENT, SILENT, SILENT, SILENT],
     }
 }
 
-pub fn press_off(own: Number, channel: Channel) -> Moved
-    ensures { λ r. ⌜ Follows r (pressOff (context 0 own) channel) ⌝ }
+pub fn press_off(channel: Channel) -> Moved
+    ensures { λ r. ⌜ Follows r (pressOff channel) ⌝ }
 {
     let holder = channel.holder;
+    let presser = channel.presser;
     let call = channel.call;
     let arrival = channel.arrival;
-    let recipients = holder_set(holder);
-    let off = press_sends(0, recipients, own, call);
+    let off = press_sends(0, set_of(presser), call);
     let answer = off.answer;
     let talk = off.talk;
     let quiet = quiet_after_press(arrival, channel.quiet);
@@ -70,24 +71,25 @@ pub fn press_off(own: Number, channel: Channel) -> Moved
             code: channel.code,
             entitled: channel.entitled,
             holder,
-            pressed: false,
-            call,
-            arrival,
+            presser: Party::Nobody,
             quiet,
             release,
+            call,
+            arrival,
         },
         sends: [answer, talk, SILENT, SILENT, SILENT, SILENT, SILENT],
     }
 }
 
 pub fn mobile_on(listeners: u8, base: u16, number: Number, channel: Channel) -> Moved
-    ensures { λ r. ⌜ Follows r (mobileOn (context listeners (num 0)) base number channel) ⌝ }
+    ensures { λ r. ⌜ Follows r (mobileOn listeners base number channel) ⌝ }
 {
     let holder = channel.holder;
+    let presser = channel.presser;
     let before = channel.call;
     let recipients = mobile_recipients(holder, listeners);
     let kind = kind_of(before);
-    let new = new_call(UP, base, number, recipients);
+    let new = new_call(UP, recipients, base, number);
     let on = mobile_sends(1, kind, base, number, recipients);
     let incoming = on.incoming;
     let arrival = on.arrival;
@@ -100,16 +102,16 @@ pub fn mobile_on(listeners: u8, base: u16, number: Number, channel: Channel) -> 
             code: channel.code,
             entitled: channel.entitled,
             holder,
-            pressed: channel.pressed,
+            presser,
+            quiet: 0,
+            release: left,
             call,
             arrival: Arrival::Present {
                 kind,
+                recipients,
                 base,
                 number,
-                recipients,
             },
-            quiet: 0,
-            release: left,
         },
         sends: [incoming, arrival, start, talk, SILENT, SILENT, SILENT],
     }
@@ -120,24 +122,25 @@ pub fn mobile_off(channel: Channel) -> Moved
     ensures { λ r. ⌜ Follows r (mobileOff channel) ⌝ }
 {
     let holder = channel.holder;
+    let presser = channel.presser;
     let call = channel.call;
     let present = channel.arrival;
     let off = mobile_off_sends(present);
     let incoming = off.incoming;
     let arrival = off.arrival;
     let talk = off.talk;
-    let quiet = quiet_after_mobile(call, channel.pressed, channel.quiet);
+    let quiet = quiet_after_mobile(call, presser, channel.quiet);
     let release = release_after(holder, channel.release);
     Moved {
         next: Channel {
             code: channel.code,
             entitled: channel.entitled,
             holder,
-            pressed: channel.pressed,
-            call,
-            arrival: Arrival::Absent,
+            presser,
             quiet,
             release,
+            call,
+            arrival: Arrival::Absent,
         },
         sends: [incoming, arrival, talk, SILENT, SILENT, SILENT, SILENT],
     }

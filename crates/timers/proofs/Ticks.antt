@@ -1,15 +1,14 @@
 -- A tick goes by what it does to the timers, and how the tests of the code tell what that is.
 -- Assumes nothing.
 use Prim.Native.Nat.{ℕ, _-_, _<_, _≤_}
-use mathlib.Core.List.{[]}
 use mathlib.Core.Bool.{Bool, true, false, cond, not, _&&_, _||_}
-use mathlib.Core.Path.{_≡_, refl, sym, _∙_}
+use mathlib.Core.Path.{_≡_, refl, sym, ap, _∙_}
 use borrow.Author.Tests.{lt-ltb, le-ltb, lt-leb, le-leb, eqb-true, eqb-false, ltb-true, ltb-false, not-true, not-false}
 use native.Mathlib.Omega.{arith}
 use lib.Dec.{eqb, leb, ltb}
 use Rattle.laws.proofs.Tests.{both, neither, by-test, cond-of}
 use Rattle.channel.specs.State.{isHeld, isPresent}
-use Rattle.line_rules.specs.Rules.{Context, Step, tick, tickIdle, tickQuiet, tickRelease}
+use Rattle.line_rules.specs.Rules.{Step, isPressed, tick, tickIdle, tickQuiet, tickRelease}
 use Rattle.timers.specs.Falls.{falling, runOut, tickBy}
 use Rattle.channel.specs.declared.state.Channel.{Channel}
 use Rattle.channel.specs.declared.state.Falling.{Falling}
@@ -27,26 +26,19 @@ idle c =
     cond (ltb 0 (c .quiet)) (cond (leb (c .quiet) 1) Due (Quiet (c .quiet - 1)))
     (cond (isHeld (c .holder)) (cond (leb (c .release) 1) Due (Release (c .release - 1))) Neither)
 
-idle-by : (x : Context) (c : Channel) → tickIdle x c ≡ tickBy (idle c) x c
+idle-by : (e : ℕ) (c : Channel) → tickIdle e c ≡ tickBy (idle c) e c
 unfolding tickIdle tickQuiet tickRelease runOut
-idle-by x c =
+idle-by e c =
     by-due (ltb 0 (c .quiet)) (leb (c .quiet) 1) (leb (c .release) 1) (isHeld (c .holder)) _ _ _ _ _
-    ∙ sym (simp (cond-of (λ (f : Falling). tickBy f x c)) refl)
+    ∙ sym (simp (cond-of (λ (f : Falling). tickBy f e c)) refl)
 
-pub tick-falling : (x : Context) (c : Channel) → tick x c ≡ tickBy (falling c) x c
+pub tick-falling : (e : ℕ) (c : Channel) → tick e c ≡ tickBy (falling c) e c
 unfolding tick falling
-tick-falling x c = simp (cond-of (λ (f : Falling). tickBy f x c), idle-by) refl
+tick-falling e c = simp (cond-of (λ (f : Falling). tickBy f e c), idle-by) refl
 
--- ---- what is sent: nothing, unless a timer runs out
-
-pub silent-neither : (x : Context) (c : Channel) → falling c ≡ Neither → tick x c .sends ≡ []
-silent-neither x c e = simp (tick-falling, e) refl
-
-pub silent-quiet : (x : Context) (c : Channel) (q : ℕ) → falling c ≡ Quiet q → tick x c .sends ≡ []
-silent-quiet x c q e = simp (tick-falling, e) refl
-
-pub silent-release : (x : Context) (c : Channel) (r : ℕ) → falling c ≡ Release r → tick x c .sends ≡ []
-silent-release x c r e = simp (tick-falling, e) refl
+-- where it is known what the tick does to the timers
+pub tick-by : (e : ℕ) (c : Channel) {f : Falling} → falling c ≡ f → tick e c ≡ tickBy f e c
+tick-by e c h = tick-falling e c ∙ ap (λ (g : Falling). tickBy g e c) h
 
 -- ---- the tests
 
@@ -68,28 +60,28 @@ module _ (c : Channel) where
       let stopped : c .quiet ≤ 0 = omega (arith, eqb-true (c .quiet) 0 (b .0)) in
       simp (le-ltb 0 (c .quiet) stopped, not-true (isHeld (c .holder)) (b .1), same) refl
 
-  pub talked : (c .pressed || isPresent (c .arrival)) ≡ true → falling c ≡ Neither
+  pub talked : (isPressed c || isPresent (c .arrival)) ≡ true → falling c ≡ Neither
   unfolding falling
-  talked h = talk (c .pressed) (isPresent (c .arrival)) _ h
+  talked h = talk (isPressed c) (isPresent (c .arrival)) _ h
 
-  pub quiet-falls : (c .pressed || isPresent (c .arrival)) ≡ false → 1 < c .quiet → falling c ≡ Quiet (c .quiet - 1)
+  pub quiet-falls : (isPressed c || isPresent (c .arrival)) ≡ false → 1 < c .quiet → falling c ≡ Quiet (c .quiet - 1)
   unfolding falling
   quiet-falls h q =
-      let n = neither (c .pressed) (isPresent (c .arrival)) h in
+      let n = neither (isPressed c) (isPresent (c .arrival)) h in
       let runs : 0 < c .quiet = omega arith in
       simp (n .0, n .1, lt-ltb 0 (c .quiet) runs, lt-leb (c .quiet) 1 q) refl
 
   pub release-left : (eqb (c .quiet) 0 && ltb 1 (c .release)) ≡ true → 1 < c .release
   release-left t = ltb-true 1 (c .release) (both (eqb (c .quiet) 0) (ltb 1 (c .release)) t .1)
 
-  module _ (z : (eqb (c .quiet) 0 && not (isHeld (c .holder))) ≡ false) (h : (c .pressed || isPresent (c .arrival)) ≡ false) where
+  module _ (z : (eqb (c .quiet) 0 && not (isHeld (c .holder))) ≡ false) (h : (isPressed c || isPresent (c .arrival)) ≡ false) where
     held : eqb (c .quiet) 0 ≡ true → isHeld (c .holder) ≡ true
     held e = not-false (isHeld (c .holder)) (rw e at z)
 
     pub release-falls : (eqb (c .quiet) 0 && ltb 1 (c .release)) ≡ true → falling c ≡ Release (c .release - 1)
     unfolding falling
     release-falls t =
-        let n = neither (c .pressed) (isPresent (c .arrival)) h in
+        let n = neither (isPressed c) (isPresent (c .arrival)) h in
         let b = both (eqb (c .quiet) 0) (ltb 1 (c .release)) t in
         let stopped : c .quiet ≤ 0 = omega (arith, eqb-true (c .quiet) 0 (b .0)) in
         simp (n .0, n .1, le-ltb 0 (c .quiet) stopped, held (b .0), lt-leb (c .release) 1 (ltb-true 1 (c .release) (b .1))) refl
@@ -97,7 +89,7 @@ module _ (c : Channel) where
     pub runs-out : c .quiet ≤ 1 → (eqb (c .quiet) 0 && ltb 1 (c .release)) ≡ false → falling c ≡ Due
     unfolding falling
     runs-out q t =
-        let n = neither (c .pressed) (isPresent (c .arrival)) h in
+        let n = neither (isPressed c) (isPresent (c .arrival)) h in
         let due : idle c ≡ Due =
         by-test (eqb (c .quiet) 0)
         (λ e.

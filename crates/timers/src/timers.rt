@@ -2,11 +2,12 @@
 use channel::Call;
 use channel::Channel;
 use channel::Falling;
-use channel::Holder;
+use channel::Party;
 use channel::is_held;
 use channel::is_present;
 ghost use mathlib.Core.Path.{_≡_};
-ghost use Rattle.line_rules.specs.Rules.{Context, tick};
+ghost use Prim.Native.Nat.{ℕ};
+ghost use Rattle.line_rules.specs.Rules.{tick};
 ghost use Rattle.timers.specs.Falls.{falling, runOut};
 
 // What a tick does to the timers. Most channels are at rest, so that is asked first.
@@ -18,7 +19,8 @@ pub fn falls(channel: Channel) -> Falling
         return Falling::Neither;
     }
     let arrival = channel.arrival;
-    if channel.pressed | is_present(arrival) {
+    let presser = channel.presser;
+    if is_held(presser) | is_present(arrival) {
         return Falling::Neither;
     }
     if 1 < channel.quiet {
@@ -32,8 +34,9 @@ pub fn falls(channel: Channel) -> Falling
 
 // The channel after a timer ran out: its call is gone, or its holder.
 fn run_out(channel: Channel) -> Channel
-    ensures { λ r. ⌜ ((x : Context) → r ≡ runOut x channel .next) ⌝ }
+    ensures { λ r. ⌜ ((e : ℕ) → r ≡ runOut e channel .next) ⌝ }
 {
+    let presser = channel.presser;
     let arrival = channel.arrival;
     if 0 < channel.quiet {
         let holder = channel.holder;
@@ -41,29 +44,29 @@ fn run_out(channel: Channel) -> Channel
             code: channel.code,
             entitled: channel.entitled,
             holder,
-            pressed: channel.pressed,
-            call: Call::Closed,
-            arrival,
+            presser,
             quiet: 0,
             release: channel.release,
+            call: Call::Closed,
+            arrival,
         };
     }
     let call = channel.call;
     Channel {
         code: channel.code,
         entitled: channel.entitled,
-        holder: Holder::Nobody,
-        pressed: channel.pressed,
-        call,
-        arrival,
+        holder: Party::Nobody,
+        presser,
         quiet: channel.quiet,
         release: 0,
+        call,
+        arrival,
     }
 }
 
 // The channel after a tick.
 pub fn ticked(mut channel: Channel) -> Channel
-    ensures { λ r. ⌜ ((x : Context) → r ≡ tick x channel .next) ⌝ }
+    ensures { λ r. ⌜ ((e : ℕ) → r ≡ tick e channel .next) ⌝ }
 {
     let falling = falls(channel);
     match falling {

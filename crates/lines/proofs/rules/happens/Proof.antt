@@ -21,28 +21,32 @@ unfolding happens
 returns-3 c = rw (c .before .enum-told .given .1) (c .cut .ensures)
 
 returns-4 : tie.Need-returns-4
-unfolding happens pressOn
-returns-4 c = rw (c .before .enum-told2 .given .1) (c .press-on .ensures)
+unfolding happens
+returns-4 c = rw (c .before .before .event3 .given .1) (c .press-on .ensures)
 
 returns-5 : tie.Need-returns-5
-unfolding happens pressOff
-returns-5 c = rw (c .before .enum-told3 .given .1) (c .press-off .ensures)
+unfolding happens
+returns-5 c = rw (c .before .enum-told2 .given .1) (c .press-off .ensures)
 
 returns-6 : tie.Need-returns-6
-unfolding happens mobileOn
-returns-6 c = rw (c .before .before .event3 .given .1) (c .mobile-on .ensures)
+unfolding happens
+returns-6 c = rw (c .before .before .event4 .given .1) (c .mobile-on .ensures)
 
 returns-7 : tie.Need-returns-7
 unfolding happens
-returns-7 c = rw (c .before .enum-told4 .given .1) (c .mobile-off .ensures)
+returns-7 c = rw (c .before .enum-told3 .given .1) (c .mobile-off .ensures)
 
 returns-8 : tie.Need-returns-8
 unfolding happens
-returns-8 c = rw (c .before .enum-told5 .given .1) (c .tick .ensures)
+returns-8 c = rw (c .before .enum-told4 .given .1) (c .tick .ensures)
 
 returns-9 : tie.Need-returns-9
 unfolding happens
-returns-9 c = rw (c .before .enum-told6 .given .1) (c .handover .ensures)
+returns-9 c = rw (c .before .enum-told5 .given .1) (c .end-talk .ensures)
+
+returns-10 : tie.Need-returns-10
+unfolding happens
+returns-10 c = rw (c .before .enum-told6 .given .1) (c .end-call .ensures)
 
 pub happens-spec : {M : Type 1} → statement M
 happens-spec =
@@ -51,5 +55,5 @@ happens-spec =
     (λ c. search needs) (λ c κs. search needs) (λ c. search needs) (λ c κs. search needs) enum-told
     (λ c κs. search needs) (λ c. search needs) (λ c κs. search needs) (λ c. search needs) (λ c κs. search needs)
     (λ c. search needs) (λ c κs. search needs) (λ c. search needs) (λ c κs. search needs) (λ c. search needs)
-    (λ c κs. search needs) (λ c. search needs) (λ c κs. search needs) returns returns-2 returns-3 returns-4 returns-5
-    returns-6 returns-7 returns-8 returns-9)
+    (λ c κs. search needs) (λ c. search needs) (λ c κs. search needs) (λ c. search needs) (λ c κs. search needs) returns
+    returns-2 returns-3 returns-4 returns-5 returns-6 returns-7 returns-8 returns-9 returns-10)

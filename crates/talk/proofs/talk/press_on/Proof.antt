@@ -11,7 +11,7 @@ returns : tie.Need-returns
 unfolding pressOn
 returns c =
     let on = c .before .before .before .before .press-sends .ensures in
-    let m = c .before .before .before .before .before .before .holder-set .ensures in
+    let m = c .before .before .before .before .before .before .only .ensures in
     let new = c .before .before .before .before .before .new-call .ensures in (
       simp (c .opened-by .ensures, new, m) refl,
       simp (send-by-send, on, sym (rw (new, m) at (c .before .before .opening .ensures)), m) refl,
