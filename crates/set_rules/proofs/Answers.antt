@@ -19,21 +19,22 @@ use Rattle.line_rules.specs.Notices.{Content, telegram, contact, contentFor}
 use Rattle.channel.specs.declared.state.Channel.{Channel}
 use Rattle.channel.specs.declared.state.Event.{Event}
 use Rattle.channel.specs.declared.state.Notice.{Notice}
-use Rattle.channel.specs.declared.state.Notice.the-variants.{PressAnswer, Incoming, BaseArrival, Call, CallerNotice, CaptureReply, CaptureState}
+use Rattle.channel.specs.declared.state.Notice.the-variants.{PressAnswer, Incoming, BaseArrival, Call, PressNotice, CallerNotice, CaptureReply, CaptureState}
 use Rattle.channel.specs.declared.state.Send.{Send}
-use Rattle.set_rules.specs.State.{newSet, noDesk}
+use Rattle.set_rules.specs.State.{newSet, noDesk, ownOf}
 use Rattle.set_rules.specs.Entries.{readEntry, telegramIn}
 use Rattle.laws.specs.Table.{pick}
 use Rattle.set_rules.specs.Refusals.{askedIn, refusalOf}
 use Rattle.set_rules.specs.Records.{Delivery, delivered, recordFor, recordSize, toEach, recordsOf, spaceOf}
-use Rattle.set_rules.specs.SetRules.{movedIn, sentIn, onChannel, sendsOf, onTick, onHandover, onRequest, ways, accepted}
+use Rattle.set_rules.specs.SetRules.{onChannel, sendsOf, onTick, onHandover, onRequest, ways, accepted}
 use Rattle.set_rules.specs.Feeds.{Item, outcomeOf, stepOf, stepBy, run, after}
 use Rattle.set_rules.specs.Promises.{Refused, Counted, Renewed}
 use Rattle.set_rules.specs.declared.state.Desk.{Desk}
 use Rattle.set_rules.specs.declared.state.LineSet.{LineSet}
 use Rattle.set_rules.specs.declared.state.Entry.{Entry}
+use Rattle.set_rules.specs.declared.state.LinkRequest.the-variants.{TellsTime, TellsState}
 use Rattle.set_rules.specs.declared.state.Request.{Request}
-use Rattle.set_rules.specs.declared.state.Request.the-variants.{TellsTime, TellsState, AsksChannel, Foreign}
+use Rattle.set_rules.specs.declared.state.Request.the-variants.{OfLink, OnChannel, Foreign}
 use Rattle.laws.proofs.Table.{pick-each}
 
 -- ---- refused answers
@@ -102,47 +103,48 @@ space-length ds [] e = refl
 space-length ds (v ∷ vs) e = simp (length-append, each-length 8 0 ds v (e .0), space-length ds vs (e .1)) refl
 
 -- every notice takes the same space to each desk
-pub even-notice : (ch : ℕ) (n : Notice) (d : ℕ) → recordSize (contentFor d ch n) ≡ recordSize (contentFor 0 ch n)
-even-notice ch (PressAnswer on) d = refl
-even-notice ch (Incoming on) d = refl
-even-notice ch (BaseArrival k b n o) d = refl
-even-notice ch (Call k di b s st r) d = refl
-even-notice ch (CallerNotice k di b n o) d = refl
-even-notice ch (CaptureReply r) d = refl
-even-notice ch (CaptureState h n s) d = refl
+pub even-notice : (ds : List Desk) (ch : ℕ) (n : Notice) (d : ℕ) → recordSize (contentFor d (ownOf ds d) ch n) ≡ recordSize (contentFor 0 (ownOf ds 0) ch n)
+even-notice ds ch (PressAnswer on) d = refl
+even-notice ds ch (Incoming on) d = refl
+even-notice ds ch (BaseArrival k b n o) d = refl
+even-notice ds ch (Call k di b s st r) d = refl
+even-notice ds ch (PressNotice k o) d = refl
+even-notice ds ch (CallerNotice k b n o) d = refl
+even-notice ds ch (CaptureReply r) d = refl
+even-notice ds ch (CaptureState h s) d = refl
 
-pub even-sends : (ch : ℕ) (ss : List Send) → AllEven (delivered ch ss)
+pub even-sends : (ds : List Desk) (ch : ℕ) (ss : List Send) → AllEven (delivered ds ch ss)
 unfolding delivered
-even-sends ch [] = tt
-even-sends ch (s ∷ ss) = (even-notice ch (s .notice), even-sends ch ss)
+even-sends ds ch [] = tt
+even-sends ds ch (s ∷ ss) = (even-notice ds ch (s .notice), even-sends ds ch ss)
 
-pub even-all : (ds : List Desk) (n : ℕ) (v : Event) (cs : List Channel) → AllEven (sendsOf ds n v cs)
+pub even-all : (ds : List Desk) (f : Channel → List Send) (cs : List Channel) → AllEven (sendsOf ds f cs)
 unfolding sendsOf
-even-all ds n v [] = tt
-even-all ds n v (c ∷ cs) = each-append Even (sentIn ds n v c) (sendsOf ds n v cs) (even-sends (c .code) (movedIn ds n v c .sends)) (even-all ds n v cs)
+even-all ds f [] = tt
+even-all ds f (c ∷ cs) = each-append Even (delivered ds (c .code) (f c)) (sendsOf ds f cs) (even-sends ds (c .code) (f c)) (even-all ds f cs)
 
-pub even-on : (s : LineSet) (ch d : ℕ) (v : Event) → AllEven (onChannel s ch d v .sent)
+pub even-on : (s : LineSet) (ch : ℕ) (v : Event) → AllEven (onChannel s ch v .sent)
 unfolding onChannel
-even-on s ch d v = even-sends _ _
+even-on s ch v = even-sends (s .desks) _ _
 
 even-request : (s : LineSet) (d : ℕ) (q : Request) → AllEven (onRequest s d q .sent)
-even-request s d TellsTime = (λ k. refl, tt)
-even-request s d (TellsState a) = tt
-even-request s d (AsksChannel ch n o) = even-on s ch d _
+even-request s d (OfLink TellsTime) = (λ k. refl, tt)
+even-request s d (OfLink (TellsState a)) = tt
+even-request s d (OnChannel ch n v) = even-on s ch v
 even-request s d Foreign = tt
 
 pub even-accepted : (s : LineSet) (e : List ℕ) (x : Entry) → AllEven (accepted s e x .sent)
 unfolding accepted onTick onHandover
 even-accepted s e x =
     pick-each (λ f. AllEven (f .sent)) (x .kind) _ (ways s e x) tt
-    ((λ k. even-request s (x .desk) (askedIn (readTelegram (telegramIn e))))
-    ▹ (λ k. even-on s (x .channel) _ _)
-    ▹ (λ k. even-on s (x .channel) _ _)
-    ▹ (λ k. even-on s (x .channel) _ _)
-    ▹ (λ k. even-on s (x .channel) _ _)
-    ▹ (λ k. even-all (s .desks) (s .size .desks) _ _)
+    ((λ k. even-request s (x .desk) (askedIn (x .desk) (readTelegram (telegramIn e))))
+    ▹ (λ k. even-on s (x .channel) _)
+    ▹ (λ k. even-on s (x .channel) _)
+    ▹ (λ k. even-on s (x .channel) _)
+    ▹ (λ k. even-on s (x .channel) _)
+    ▹ (λ k. even-all (s .desks) _ _)
     ▹ (λ k. (λ d. refl, tt))
-    ▹ (λ k. even-all (s .desks) (s .size .desks) _ _)
+    ▹ (λ k. even-all (s .desks) _ _)
     ▹ tt)
 
 pub counted : Counted

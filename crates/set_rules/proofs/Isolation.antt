@@ -15,33 +15,34 @@ use Rattle.fields.specs.declared.digits.Digits.{Digits}
 use Rattle.telegram.specs.declared.message.Number.{Number}
 use Rattle.telegram.specs.Telegram.{readTelegram}
 use Rattle.telegram.specs.declared.message.Reading.{Reading}
-use Rattle.channel.specs.State.{isIn, only, holderPlace}
+use Rattle.channel.specs.State.{isIn, only}
 use Rattle.line_rules.specs.Rules.{Step, happens, mobileRecipients}
 use Rattle.line_rules.specs.Notices.{contentFor}
-use Rattle.channel.specs.declared.state.Holder.{Holder}
-use Rattle.channel.specs.declared.state.Holder.the-variants.{Nobody, Held}
+use Rattle.channel.specs.declared.state.Party.{Party}
+use Rattle.channel.specs.declared.state.Party.the-variants.{Nobody, By}
 use Rattle.channel.specs.declared.state.Channel.{Channel}
 use Rattle.channel.specs.declared.state.Event.{Event}
-use Rattle.channel.specs.declared.state.Event.the-variants.{Capture, Release, Cut, PressOn, PressOff, MobileOn, MobileOff, Tick, Handover}
+use Rattle.channel.specs.declared.state.Event.the-variants.{Cut, PressOn, PressOff, MobileOn, MobileOff, Tick, EndTalk, EndCall}
 use Rattle.channel.specs.declared.state.Notice.{Notice}
-use Rattle.channel.specs.declared.state.Notice.the-variants.{PressAnswer, Incoming, BaseArrival, Call, CallerNotice, CaptureReply, CaptureState}
+use Rattle.channel.specs.declared.state.Notice.the-variants.{PressAnswer, Incoming, BaseArrival, Call, PressNotice, CallerNotice, CaptureReply, CaptureState}
 use Rattle.channel.specs.declared.state.Send.{Send}
-use Rattle.line_rules.specs.Veil.{veil, hide, hideNotice, hideSends, hideStep}
+use Rattle.line_rules.specs.Veil.{veil, hide, hideNotice, hideSend, hideSends, hideStep}
 use Rattle.line_rules.proofs.Kept.{hide-twice, present-hide, happens-hide, number-hidden}
-use Rattle.set_rules.specs.State.{newSet, noChannel, placeOf, placeIn, channelAt, listenersOf, withChannels}
+use Rattle.set_rules.specs.State.{newSet, noChannel, ownOf, placeOf, placeIn, channelAt, listenersOf, withChannels}
 use Rattle.laws.specs.Table.{pick}
 use Rattle.set_rules.specs.Entries.{byte, measured, readEntry, sizeOk, asks, bad, mobileIn, telegramIn}
 use Rattle.set_rules.specs.Refusals.{Lookup, lookup, Test, askedIn, namedBy, firstOf, refusalOf, isCaller, table}
 use Rattle.set_rules.specs.Records.{Delivery, delivered, recordSize, recordsOf, spaceOf}
-use Rattle.set_rules.specs.SetRules.{Effect, effect, timeTaken, answerTaken, contextOf, onChannel, byHolder, movedIn, nextsOf, sendsOf, onTick, onHandover, onRequest, numberIn, ways, accepted}
+use Rattle.set_rules.specs.SetRules.{Effect, effect, timeTaken, answerTaken, onChannel, movedIn, sendsOf, ticked, tickSends, endSends, onTick, onHandover, onRequest, numberIn, ways, accepted}
 use Rattle.set_rules.specs.Feeds.{Item, outcomeOf, stepOf, stepBy, ofDesk, received, Seen, seenOf, views}
 use Rattle.set_rules.specs.Promises.{AlikeBut, Renumbered, OtherHolds, MayDiffer, same, talks, Related, ended, more, Isolated}
 use Rattle.laws.specs.Each.{Each}
 use Rattle.set_rules.specs.declared.state.Desk.{Desk}
 use Rattle.set_rules.specs.declared.state.LineSet.{LineSet}
 use Rattle.set_rules.specs.declared.state.Entry.{Entry}
+use Rattle.set_rules.specs.declared.state.LinkRequest.the-variants.{TellsTime, TellsState}
 use Rattle.set_rules.specs.declared.state.Request.{Request}
-use Rattle.set_rules.specs.declared.state.Request.the-variants.{TellsTime, TellsState, AsksChannel, Foreign}
+use Rattle.set_rules.specs.declared.state.Request.the-variants.{OfLink, OnChannel, Foreign}
 use Rattle.laws.proofs.Each.{_▹_}
 use Rattle.laws.proofs.Table.{pick-matched}
 use Rattle.set_rules.proofs.Received.{AllLike, space-like, received-like, like-append}
@@ -129,7 +130,7 @@ module _ (B : ℕ) where
   unfolding refusalOf
   refusal-hide s e x =
       let r = readTelegram (telegramIn e) in
-      let ch = namedBy (askedIn r) x in
+      let ch = namedBy (askedIn (x .desk) r) x in
       rw (lookup-hide s ch, rows-hide (lookup s ch) e r x table (blind (lookup s ch) e r x))
 
   -- ---- what an effect shows B, and what it leaves
@@ -149,45 +150,49 @@ module _ (B : ℕ) where
   seen-notice (Incoming on) = refl
   seen-notice (BaseArrival k b n o) = refl
   seen-notice (Call k d b s t r) = refl
-  seen-notice (CallerNotice k d b n o) = refl
+  seen-notice (PressNotice k o) = refl
+  seen-notice (CallerNotice k b n o) = refl
   seen-notice (CaptureReply r) = refl
-  seen-notice (CaptureState h n s) = refl
+  seen-notice (CaptureState h s) = refl
 
-  notice-size : (t : Bool) (ch : ℕ) (n : Notice) → recordSize (contentFor 0 ch n) ≡ recordSize (contentFor 0 ch (hideNotice B t n))
-  notice-size t ch (PressAnswer on) = refl
-  notice-size t ch (Incoming on) = refl
-  notice-size t ch (BaseArrival k b n o) = refl
-  notice-size t ch (Call k d b s st r) = refl
-  notice-size t ch (CallerNotice k d b n o) = refl
-  notice-size t ch (CaptureReply r) = refl
-  notice-size t ch (CaptureState h n s) = refl
+  notice-size : (t : Bool) (own : Number) (ch : ℕ) (n : Notice) → recordSize (contentFor 0 own ch n) ≡ recordSize (contentFor 0 own ch (hideNotice B t n))
+  notice-size t own ch (PressAnswer on) = refl
+  notice-size t own ch (Incoming on) = refl
+  notice-size t own ch (BaseArrival k b n o) = refl
+  notice-size t own ch (Call k d b s st r) = refl
+  notice-size t own ch (PressNotice k o) = refl
+  notice-size t own ch (CallerNotice k b n o) = refl
+  notice-size t own ch (CaptureReply r) = refl
+  notice-size t own ch (CaptureState h s) = refl
 
-  like-hidden : (ch : ℕ) (ss : List Send) → AllLike B (delivered ch ss) (delivered ch (hideSends B ss))
+  like-hidden : (ds : List Desk) (ch : ℕ) (ss : List Send) → AllLike B (delivered ds ch ss) (delivered ds ch (hideSends B ss))
   unfolding delivered
-  like-hidden ch [] = tt
-  like-hidden ch (s ∷ ss) = (
+  like-hidden ds ch [] = tt
+  like-hidden ds ch (s ∷ ss) = (
     record {
       recipients = refl;
-      space = notice-size (isIn B (s .recipients)) ch (s .notice);
-      told = λ h. ap (contentFor B ch) (sym (ap (λ (t : Bool). hideNotice B t (s .notice)) h ∙ seen-notice (s .notice)));
+      space = notice-size (isIn B (s .recipients)) (ownOf ds 0) ch (s .notice);
+      told = λ h. ap (contentFor B (ownOf ds B) ch) (sym (ap (λ (t : Bool). hideNotice B t (s .notice)) h ∙ seen-notice (s .notice)));
     },
-    like-hidden ch ss,
+    like-hidden ds ch ss,
   )
 
   -- two lists of sends with the same hidden ones
-  space-hidden : (ch : ℕ) (ss ts : List Send) → hideSends B ss ≡ hideSends B ts → spaceOf (delivered ch ss) ≡ spaceOf (delivered ch ts)
-  space-hidden ch ss ts h =
-      space-like B _ _ (like-hidden ch ss) ∙ ap (λ (l : List Send). spaceOf (delivered ch l)) h ∙ sym (space-like B _ _ (like-hidden ch ts))
+  space-hidden : (ds : List Desk) (ch : ℕ) (ss ts : List Send) → hideSends B ss ≡ hideSends B ts → spaceOf (delivered ds ch ss) ≡ spaceOf (delivered ds ch ts)
+  space-hidden ds ch ss ts h =
+      space-like B _ _ (like-hidden ds ch ss) ∙ ap (λ (l : List Send). spaceOf (delivered ds ch l)) h ∙ sym (space-like B _ _ (like-hidden ds ch ts))
 
   got-hidden : (ds : List Desk) (ch : ℕ) (ss ts : List Send) → hideSends B ss ≡ hideSends B ts
-      → received B (recordsOf ds (delivered ch ss)) ≡ received B (recordsOf ds (delivered ch ts))
+      → received B (recordsOf ds (delivered ds ch ss)) ≡ received B (recordsOf ds (delivered ds ch ts))
   got-hidden ds ch ss ts h =
-      received-like B ds _ _ (like-hidden ch ss) ∙ ap (λ (l : List Send). received B (recordsOf ds (delivered ch l))) h ∙ sym (received-like B ds _ _ (like-hidden ch ts))
+      received-like B ds _ _ (like-hidden ds ch ss)
+      ∙ ap (λ (l : List Send). received B (recordsOf ds (delivered ds ch l))) h
+      ∙ sym (received-like B ds _ _ (like-hidden ds ch ts))
 
   -- ---- one channel
 
   abbrev atPlace : LineSet → ℕ → Channel → Step → Effect
-  atPlace s p c st = effect s (withChannels (set (s .channels) p (st .next)) s) (delivered (c .code) (st .sends))
+  atPlace s p c st = effect s (withChannels (set (s .channels) p (st .next)) s) (delivered (s .desks) (c .code) (st .sends))
 
   place-shown : (s : LineSet) (p : ℕ) (c : Channel) (st st′ : Step) → hideStep B st ≡ hideStep B st′ → shown (atPlace s p c st) ≡ shown (atPlace s p c st′)
   place-shown s p c st st′ h =
@@ -195,7 +200,7 @@ module _ (B : ℕ) where
       let t : hideSends B (st .sends) ≡ hideSends B (st′ .sends) = ap (λ (x : Step). x .sends) h in
       let m : hides (set (s .channels) p (st .next)) ≡ hides (set (s .channels) p (st′ .next)) =
       map-set (hide B) (s .channels) p (st .next) ∙ ap (set (hides (s .channels)) p) n ∙ sym (map-set (hide B) (s .channels) p (st′ .next)) in
-      rw (m, space-hidden (c .code) (st .sends) (st′ .sends) t, got-hidden (s .desks) (c .code) (st .sends) (st′ .sends) t)
+      rw (m, space-hidden (s .desks) (c .code) (st .sends) (st′ .sends) t, got-hidden (s .desks) (c .code) (st .sends) (st′ .sends) t)
 
   place-left : (s : LineSet) (p : ℕ) (c : Channel) (st : Step) → shown (atPlace (hideSet s) p (hide B c) st) ≡ shown (atPlace s p c st)
   place-left s p c st =
@@ -203,76 +208,85 @@ module _ (B : ℕ) where
       map-set (hide B) (hides (s .channels)) p (st .next) ∙ ap (λ (l : List Channel). set l p (hide B (st .next))) (hides-twice (s .channels)) ∙ sym (map-set (hide B) (s .channels) p (st .next)) in
       rw m
 
-  on-hide : (s : LineSet) (ch d : ℕ) (v : Event) → shown (onChannel (hideSet s) ch d v) ≡ shown (onChannel s ch d v)
+  on-hide : (s : LineSet) (ch : ℕ) (v : Event) → shown (onChannel (hideSet s) ch v) ≡ shown (onChannel s ch v)
   unfolding onChannel
-  on-hide s ch d v =
+  on-hide s ch v =
       let c = channelAt s ch in
-      let x = contextOf (s .desks) (s .size .desks) c d in
+      let e = listenersOf (s .desks) (s .size .desks) c in
       let p = placeIn s ch in
       rw (place-hide (s .size .channels) ch (s .channels), at-hide (s .size .channels) p (s .channels))
-      (place-left s p c (happens v x (hide B c)) ∙ place-shown s p c (happens v x (hide B c)) (happens v x c) (happens-hide B v x c))
+      (place-left s p c (happens v e (hide B c)) ∙ place-shown s p c (happens v e (hide B c)) (happens v e c) (happens-hide B v e c))
 
   -- ---- all channels
 
-  module _ (ds : List Desk) (n : ℕ) (v : Event) where
-    moved-hide : (c : Channel) → hideStep B (movedIn ds n v (hide B c)) ≡ hideStep B (movedIn ds n v c)
-    moved-hide c = happens-hide B v (contextOf ds n c (holderPlace (c .holder))) c
+  moved-hide : (ds : List Desk) (n : ℕ) (v : Event) (c : Channel) → hideStep B (movedIn ds n v (hide B c)) ≡ hideStep B (movedIn ds n v c)
+  moved-hide ds n v c = happens-hide B v (listenersOf ds n c) c
 
-    nexts-hide : (cs : List Channel) → hides (nextsOf ds n v (hides cs)) ≡ hides (nextsOf ds n v cs)
-    unfolding nextsOf
-    nexts-hide [] = refl
-    nexts-hide (c ∷ cs) =
-        let h : hide B (movedIn ds n v (hide B c) .next) ≡ hide B (movedIn ds n v c .next) = ap (λ (x : Step). x .next) (moved-hide c) in
-        rw (h, nexts-hide cs)
+  sends-hide : (ds : List Desk) (n : ℕ) (v : Event) (c : Channel) → hideSends B (movedIn ds n v (hide B c) .sends) ≡ hideSends B (movedIn ds n v c .sends)
+  sends-hide ds n v c = ap (λ (x : Step). x .sends) (moved-hide ds n v c)
 
+  -- f sends the same but for the numbers, whatever is hidden of a channel
+  module _ (ds : List Desk) (f : Channel → List Send) (same-but : (c : Channel) → hideSends B (f (hide B c)) ≡ hideSends B (f c)) where
     -- what the channels send, with the numbers hidden
     hiddenOf : List Channel → List Delivery
     hiddenOf [] = []
-    hiddenOf (c ∷ cs) = delivered (c .code) (hideSends B (movedIn ds n v c .sends)) ++ hiddenOf cs
+    hiddenOf (c ∷ cs) = delivered ds (c .code) (hideSends B (f c)) ++ hiddenOf cs
 
-    like-all : (cs : List Channel) → AllLike B (sendsOf ds n v cs) (hiddenOf cs)
+    like-all : (cs : List Channel) → AllLike B (sendsOf ds f cs) (hiddenOf cs)
     unfolding sendsOf hiddenOf
     like-all [] = tt
     like-all (c ∷ cs) =
-        let ss = movedIn ds n v c .sends in
-        like-append B (delivered (c .code) ss) (delivered (c .code) (hideSends B ss)) (sendsOf ds n v cs) (hiddenOf cs) (like-hidden (c .code) ss) (like-all cs)
+        like-append B (delivered ds (c .code) (f c)) (delivered ds (c .code) (hideSends B (f c))) (sendsOf ds f cs) (hiddenOf cs) (like-hidden ds (c .code) (f c)) (like-all cs)
 
     hidden-hide : (cs : List Channel) → hiddenOf (hides cs) ≡ hiddenOf cs
     unfolding hiddenOf
     hidden-hide [] = refl
-    hidden-hide (c ∷ cs) =
-        let t : hideSends B (movedIn ds n v (hide B c) .sends) ≡ hideSends B (movedIn ds n v c .sends) = ap (λ (x : Step). x .sends) (moved-hide c) in
-        rw (t, hidden-hide cs)
+    hidden-hide (c ∷ cs) = rw (same-but c, hidden-hide cs)
 
-    space-all : (cs : List Channel) → spaceOf (sendsOf ds n v (hides cs)) ≡ spaceOf (sendsOf ds n v cs)
+    space-all : (cs : List Channel) → spaceOf (sendsOf ds f (hides cs)) ≡ spaceOf (sendsOf ds f cs)
     space-all cs = space-like B _ _ (like-all (hides cs)) ∙ ap spaceOf (hidden-hide cs) ∙ sym (space-like B _ _ (like-all cs))
 
-    got-all : (cs : List Channel) → received B (recordsOf ds (sendsOf ds n v (hides cs))) ≡ received B (recordsOf ds (sendsOf ds n v cs))
+    got-all : (cs : List Channel) → received B (recordsOf ds (sendsOf ds f (hides cs))) ≡ received B (recordsOf ds (sendsOf ds f cs))
     got-all cs =
         received-like B ds _ _ (like-all (hides cs))
         ∙ ap (λ (l : List Delivery). received B (recordsOf ds l)) (hidden-hide cs)
         ∙ sym (received-like B ds _ _ (like-all cs))
 
-  ticked : (ds : List Desk) (n : ℕ) (cs rest : List Channel) → hides (nextsOf ds n Tick (hides cs) ++ hides rest) ≡ hides (nextsOf ds n Tick cs ++ rest)
-  ticked ds n cs rest =
-      map-append (hide B) (nextsOf ds n Tick (hides cs)) (hides rest)
-      ∙ rw (nexts-hide ds n Tick cs, hides-twice rest) (sym (map-append (hide B) (nextsOf ds n Tick cs) rest))
+  nexts-hide : (ds : List Desk) (n : ℕ) (cs : List Channel) → hides (map (ticked ds n) (hides cs)) ≡ hides (map (ticked ds n) cs)
+  nexts-hide ds n [] = refl
+  nexts-hide ds n (c ∷ cs) =
+      let h : hide B (ticked ds n (hide B c)) ≡ hide B (ticked ds n c) = ap (λ (x : Step). x .next) (moved-hide ds n Tick c) in
+      rw (h, nexts-hide ds n cs)
+
+  all-ticked : (ds : List Desk) (n : ℕ) (cs rest : List Channel) → hides (map (ticked ds n) (hides cs) ++ hides rest) ≡ hides (map (ticked ds n) cs ++ rest)
+  all-ticked ds n cs rest =
+      map-append (hide B) (map (ticked ds n) (hides cs)) (hides rest)
+      ∙ rw (nexts-hide ds n cs, hides-twice rest) (sym (map-append (hide B) (map (ticked ds n) cs) rest))
 
   tick-hide : (s : LineSet) → shown (onTick (hideSet s)) ≡ shown (onTick s)
   unfolding onTick
   tick-hide s =
-      let n = s .size .channels in
-      let cs = take n (s .channels) in
-      let k : take n (hides (s .channels)) ≡ hides cs = take-map (hide B) n (s .channels) in
-      let d : drop n (hides (s .channels)) ≡ hides (drop n (s .channels)) = drop-map (hide B) n (s .channels) in
-      rw (k, d, ticked (s .desks) (s .size .desks) cs (drop n (s .channels)), space-all (s .desks) (s .size .desks) Tick cs, got-all (s .desks) (s .size .desks) Tick cs)
+      let m = s .size .channels in
+      let cs = take m (s .channels) in
+      let ds = s .desks in
+      let n = s .size .desks in
+      let k : take m (hides (s .channels)) ≡ hides cs = take-map (hide B) m (s .channels) in
+      let d : drop m (hides (s .channels)) ≡ hides (drop m (s .channels)) = drop-map (hide B) m (s .channels) in
+      let f = tickSends ds n in
+      let h = sends-hide ds n Tick in
+      rw (k, d, all-ticked ds n cs (drop m (s .channels)), space-all ds f h cs, got-all ds f h cs)
+
+  end-hide : (ds : List Desk) (n : ℕ) (c : Channel) → hideSends B (endSends ds n (hide B c)) ≡ hideSends B (endSends ds n c)
+  end-hide ds n c = simp (map-append (hideSend B), sends-hide ds n EndTalk c, sends-hide ds n EndCall c) refl
 
   handover-hide : (s : LineSet) → shown (onHandover (hideSet s)) ≡ shown (onHandover s)
   unfolding onHandover
   handover-hide s =
       let cs = take (s .size .channels) (s .channels) in
+      let ds = s .desks in
+      let n = s .size .desks in
       let k : take (s .size .channels) (hides (s .channels)) ≡ hides cs = take-map (hide B) (s .size .channels) (s .channels) in
-      rw (k, space-all (s .desks) (s .size .desks) Handover cs, got-all (s .desks) (s .size .desks) Handover cs)
+      rw (k, space-all ds (endSends ds n) (end-hide ds n) cs, got-all ds (endSends ds n) (end-hide ds n) cs)
 
   -- ---- every accepted entry
 
@@ -283,27 +297,21 @@ module _ (B : ℕ) where
   answer-hide s d a = rw (hides-twice (s .channels))
 
   request-hide : (s : LineSet) (d : ℕ) (q : Request) → shown (onRequest (hideSet s) d q) ≡ shown (onRequest s d q)
-  request-hide s d TellsTime = time-hide s d
-  request-hide s d (TellsState a) = answer-hide s d a
-  request-hide s d (AsksChannel ch n o) = on-hide s ch d (cond (eqb o 1) (Capture d) (Release d))
+  request-hide s d (OfLink TellsTime) = time-hide s d
+  request-hide s d (OfLink (TellsState a)) = answer-hide s d a
+  request-hide s d (OnChannel ch n v) = on-hide s ch v
   request-hide s d Foreign = rw (hides-twice (s .channels))
-
-  holder-hide : (s : LineSet) (ch : ℕ) (v : Event) → shown (byHolder (hideSet s) ch v) ≡ shown (byHolder s ch v)
-  holder-hide s ch v =
-      let p : holderPlace (channelAt (hideSet s) ch .holder) ≡ holderPlace (channelAt s ch .holder) =
-      ap (λ (c : Channel). holderPlace (c .holder)) (channelAt-hide s ch) in
-      ap (λ (d : ℕ). shown (onChannel (hideSet s) ch d v)) p ∙ on-hide s ch (holderPlace (channelAt s ch .holder)) v
 
   accepted-hide : (s : LineSet) (e : List ℕ) (x : Entry) → shown (accepted (hideSet s) e x) ≡ shown (accepted s e x)
   unfolding accepted
   accepted-hide s e x =
       pick-matched (λ f g. shown f ≡ shown g) (x .kind) (effect (hideSet s) (hideSet s) []) (effect s s []) (ways (hideSet s) e x) (ways s e x) refl
       (rw (hides-twice (s .channels)))
-      (request-hide s (x .desk) (askedIn (readTelegram (telegramIn e)))
-      ▹ holder-hide s (x .channel) (cond (eqb (x .on) 1) PressOn PressOff)
-      ▹ holder-hide s (x .channel) Cut
-      ▹ holder-hide s (x .channel) (MobileOn (x .base) (numberIn (x .number)))
-      ▹ holder-hide s (x .channel) MobileOff
+      (request-hide s (x .desk) (askedIn (x .desk) (readTelegram (telegramIn e)))
+      ▹ on-hide s (x .channel) (cond (eqb (x .on) 1) (PressOn (x .desk) (ownOf (s .desks) (x .desk))) PressOff)
+      ▹ on-hide s (x .channel) Cut
+      ▹ on-hide s (x .channel) (MobileOn (x .base) (numberIn (x .number)))
+      ▹ on-hide s (x .channel) MobileOff
       ▹ tick-hide s
       ▹ refl
       ▹ handover-hide s
@@ -405,17 +413,16 @@ module _ (B : ℕ) where
 
   -- a mobile on under another desk shows B the same whatever its number
   number-shown : (s : LineSet) (ch b : ℕ) (n n′ : Number) → OtherHolds B (channelAt s ch .holder)
-      → shown (byHolder s ch (MobileOn b n)) ≡ shown (byHolder s ch (MobileOn b n′))
+      → shown (onChannel s ch (MobileOn b n)) ≡ shown (onChannel s ch (MobileOn b n′))
   unfolding onChannel happens
   number-shown s ch b n n′ o =
       let c = channelAt s ch in
-      let x = contextOf (s .desks) (s .size .desks) c (holderPlace (c .holder)) in
-      place-shown s (placeIn s ch) c (happens (MobileOn b n) x c) (happens (MobileOn b n′) x c)
-      (number-hidden B x b n n′ c (unheard (c .holder) o))
+      let e = listenersOf (s .desks) (s .size .desks) c in
+      place-shown s (placeIn s ch) c (happens (MobileOn b n) e c) (happens (MobileOn b n′) e c) (number-hidden B e b n n′ c (unheard (c .holder) o))
     where
-      unheard : (h : Holder) → OtherHolds B h → isIn B (mobileRecipients h (listenersOf (s .desks) (s .size .desks) (channelAt s ch))) ≡ false
+      unheard : (h : Party) → OtherHolds B h → isIn B (mobileRecipients h (listenersOf (s .desks) (s .size .desks) (channelAt s ch))) ≡ false
       unheard Nobody o = absurd o
-      unheard (Held d) o = only-other B d o
+      unheard (By d) o = only-other B d o
 
   accepted-number : (s : LineSet) (e e′ : List ℕ) (ch b : ℕ) (d d′ : Digits) → OtherHolds B (channelAt s ch .holder)
       → shown (accepted s e (asks 4 0 ch 0 b d)) ≡ shown (accepted s e′ (asks 4 0 ch 0 b d′))

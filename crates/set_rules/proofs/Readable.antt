@@ -1,7 +1,7 @@
 -- In every state that a feed brings about the set is as `SetOk` says, and every telegram that it sends reads as meant.
 -- Assumes nothing.
 use Prim.Native.Nat.{ℕ, zero, suc, _+_, _-_, _*_, _^_, _≤_, _<_}
-use mathlib.Core.List.{List, [], _∷_}
+use mathlib.Core.List.{List, [], _∷_, map}
 use mathlib.Core.Bool.{Bool, true, false, _&&_, not, cond, false≢true}
 use mathlib.Core.Path.{_≡_, refl, sym, ap, _∙_}
 use native.Mathlib.Omega.{arith}
@@ -17,26 +17,28 @@ use Rattle.fields.specs.Fields.{allIn, between}
 use Rattle.fields.specs.declared.digits.Digits.the-variants.{Value, Malformed}
 use Rattle.telegram.specs.Telegram.{num, inRange, readTelegram, telegramOf}
 use Rattle.telegram.specs.declared.message.Message.{Message}
-use Rattle.telegram.specs.declared.message.Message.the-variants.{TimeRequest, OperationRequest}
-use Rattle.telegram.specs.declared.message.Reading.the-variants.{Telegram}
+use Rattle.telegram.specs.declared.message.Message.the-variants.{TimeNotice, OperationAnswer, TimeRequest, BaseArrival, OperationRequest, Call, CallerNotice, CaptureRequest, CaptureReply, CaptureState}
+use Rattle.telegram.specs.declared.message.Reading.{Reading}
+use Rattle.telegram.specs.declared.message.Reading.the-variants.{Telegram, Refused}
 use Rattle.fields.proofs.Kept.{value-below}
 use Rattle.telegram.proofs.Kept.{reads-back}
-use Rattle.channel.specs.State.{only, firstDesks, holderPlace, isHeld, heldBy}
-use Rattle.channel.specs.declared.state.Holder.{Holder}
-use Rattle.channel.specs.declared.state.Holder.the-variants.{Nobody, Held}
+use Rattle.channel.specs.State.{only, firstDesks, heldBy}
+use Rattle.channel.specs.declared.state.Party.{Party}
+use Rattle.channel.specs.declared.state.Party.the-variants.{Nobody, By}
+use Rattle.line_rules.specs.Rules.{happens, isPressed}
 use Rattle.line_rules.specs.Notices.{Content, telegram, contact, contentFor}
 use Rattle.channel.specs.declared.state.Channel.{Channel}
 use Rattle.channel.specs.declared.state.Event.{Event}
-use Rattle.channel.specs.declared.state.Event.the-variants.{Capture, Release, Cut, PressOn, PressOff, MobileOff, Tick, Handover}
+use Rattle.channel.specs.declared.state.Event.the-variants.{Capture, Release, Cut, PressOn, PressOff, MobileOff, Tick, EndTalk, EndCall}
 use Rattle.channel.specs.declared.state.Send.{Send}
-use Rattle.set_rules.specs.State.{newSet, noDesk, noChannel, channelsOf, placeIn, channelAt, timeTold, answered, withLink}
+use Rattle.set_rules.specs.State.{newSet, noDesk, noChannel, ownOf, listenersOf, channelsOf, placeIn, channelAt, timeTold, answered, withLink}
 use Rattle.set_rules.specs.Entries.{byte, word, readEntry, measured, bad, payload, payloadOk, sizeOk, telegramIn, planIn}
 use Rattle.set_rules.specs.Plan.{deskOk, desksOk, desksIn, channelsOk, channelsIn, deskCount, desksPart, channelCount, channelsPart, distinct, planOk, setOf}
-use Rattle.set_rules.specs.Refusals.{askedIn, refusalOf}
+use Rattle.set_rules.specs.Refusals.{askedBy, askedIn, refusalOf}
 use Rattle.set_rules.specs.Records.{delivered}
-use Rattle.set_rules.specs.SetRules.{Effect, telegramTo, contextOf, movedIn, nextsOf, sendsOf, onChannel, onTick, onHandover, onPlan, onRequest, ways, timeTaken, answerTaken, numberIn, accepted}
+use Rattle.set_rules.specs.SetRules.{Effect, telegramTo, sendsOf, onChannel, ticked, tickSends, endSends, onTick, onHandover, onPlan, onRequest, ways, timeTaken, answerTaken, numberIn, accepted}
 use Rattle.set_rules.specs.Feeds.{Item, stepBy, after}
-use Rattle.line_rules.specs.Invariant.{NumberOk, ChannelOk, Fits, SendsOk, ContentOk}
+use Rattle.line_rules.specs.Invariant.{NumberOk, ChannelOk, Fits, SendOk, SendsOk, ContentOk}
 use Rattle.line_rules.proofs.Kept.{free-is-ok, stays-ok, says-in-range}
 use Rattle.set_rules.specs.Invariant.{DeskOk, SetOk}
 use Rattle.set_rules.specs.Promises.{Reads, AllRead, Readable, AlwaysOk}
@@ -44,8 +46,9 @@ use Rattle.set_rules.specs.declared.state.Link.{Link}
 use Rattle.set_rules.specs.declared.state.Desk.{Desk}
 use Rattle.set_rules.specs.declared.state.LineSet.{LineSet}
 use Rattle.set_rules.specs.declared.state.Entry.{Entry}
+use Rattle.set_rules.specs.declared.state.LinkRequest.the-variants.{TellsTime, TellsState}
 use Rattle.set_rules.specs.declared.state.Request.{Request}
-use Rattle.set_rules.specs.declared.state.Request.the-variants.{TellsTime, TellsState, AsksChannel, Foreign}
+use Rattle.set_rules.specs.declared.state.Request.the-variants.{OfLink, OnChannel, Foreign}
 use Rattle.laws.proofs.Table.{pick-each}
 use Rattle.set_rules.proofs.Answers.{refused, accepted-after}
 use Rattle.set_rules.proofs.Rows.{no-row}
@@ -80,15 +83,46 @@ content-reads code (telegram m′) h k m e =
     reads-back code m (simp (le-leb code 1023 h, ap inRange (sym q) ∙ k))
 content-reads code (contact k′ ch on) h k m e = absurd (let z : _≡_ {A = ℕ} 0 1 = cc in omega arith)
 
-sent-reads : (ds : List Desk) → Each DeskOk ds → (ch : ℕ) → ch ≤ 99 → (ss : List Send) → SendsOk ss → AllRead ds (delivered ch ss)
+sent-reads : (ds : List Desk) → Each DeskOk ds → (ch : ℕ) → ch ≤ 99 → (ss : List Send) → SendsOk ss → AllRead ds (delivered ds ch ss)
 unfolding delivered
 sent-reads ds o ch h [] k = tt
 sent-reads ds o ch h (s ∷ ss) k =
-    (λ d m e. content-reads (getD ds d noDesk .code) (contentFor d ch (s .notice)) (desk-ok ds o d .code-ok) (says-in-range d ch (s .notice) h (k .0)) m e, sent-reads ds o ch h ss (k .1))
+    let one : Reads ds (record { recipients = s .recipients; content = λ d. contentFor d (ownOf ds d) ch (s .notice) }) =
+    λ d m e.
+    let own = desk-ok ds o d in
+    content-reads (getD ds d noDesk .code) (contentFor d (ownOf ds d) ch (s .notice)) (own .code-ok) (says-in-range d (ownOf ds d) ch (s .notice) (own .number-ok) h (k .0)) m e in
+    (one, sent-reads ds o ch h ss (k .1))
 
 -- a telegram that is in range whatever it says
 plain-reads : (ds : List Desk) → Each DeskOk ds → (to : ℕ) (m : Message) → inRange m ≡ true → AllRead ds (telegramTo to m)
 plain-reads ds o to m h = (λ d m′ e. content-reads (getD ds d noDesk .code) (telegram m) (desk-ok ds o d .code-ok) h m′ e, tt)
+
+-- ---- what telegrams ask fits every channel
+
+abbrev EventFits : Request → Channel → Type 0
+EventFits (OfLink q) c = Unit {0}
+EventFits (OnChannel ch n v) c = Fits v c
+EventFits Foreign c = Unit {0}
+
+order-fits : (t : Bool) (d : ℕ) (c : Channel) → Fits (cond t (Capture d) (Release d)) c
+order-fits true d c = tt
+order-fits false d c = tt
+
+asked-fits : (d : ℕ) (m : Message) (c : Channel) → EventFits (askedBy d m) c
+asked-fits d (TimeNotice m) c = tt
+asked-fits d (OperationAnswer m) c = tt
+asked-fits d TimeRequest c = tt
+asked-fits d (BaseArrival m) c = tt
+asked-fits d OperationRequest c = tt
+asked-fits d (Call m) c = tt
+asked-fits d (CallerNotice m) c = tt
+asked-fits d (CaptureRequest m) c = order-fits (eqb (m .order) 1) d c
+asked-fits d (CaptureReply m) c = tt
+asked-fits d (CaptureState m) c = tt
+
+reading-fits : (d : ℕ) (r : Reading) (c : Channel) → EventFits (askedIn d r) c
+reading-fits d (Telegram k m) c = asked-fits d m c
+reading-fits d (Refused n k i) c = tt
 
 -- ---- effects
 
@@ -97,48 +131,54 @@ record EffectOk (f : Effect) : Type 0 where
   sent-ok : AllRead (f .desks) (f .sent)
 
 module _ (s : LineSet) (ok : SetOk s) where
-  own-ok : (d : ℕ) → NumberOk (getD (s .desks) d noDesk .number)
+  own-ok : (d : ℕ) → NumberOk (ownOf (s .desks) d)
   own-ok d = desk-ok (s .desks) (ok .desks-ok) d .number-ok
 
   at-ok : (ch : ℕ) → ChannelOk (channelAt s ch)
   at-ok ch = each-at ChannelOk (channelsOf s) noChannel (each-take ChannelOk (s .size .channels) (s .channels) (ok .channels-ok)) no-channel (placeIn s ch)
 
-  on-ok : (ch d : ℕ) (v : Event) → Fits v (channelAt s ch) → EffectOk (onChannel s ch d v)
+  on-ok : (ch : ℕ) (v : Event) → Fits v (channelAt s ch) → EffectOk (onChannel s ch v)
   unfolding onChannel
-  on-ok ch d v h =
+  on-ok ch v h =
       let c = channelAt s ch in
-      let k = stays-ok v (contextOf (s .desks) (s .size .desks) c d) c (own-ok d) h (at-ok ch) in
+      let k = stays-ok v (listenersOf (s .desks) (s .size .desks) c) c h (at-ok ch) in
       record {
         set-ok = record { desks-ok = ok .desks-ok; channels-ok = each-set ChannelOk (s .channels) (placeIn s ch) _ (ok .channels-ok) (k .next-ok) };
         sent-ok = sent-reads (s .desks) (ok .desks-ok) (c .code) (at-ok ch .in-range .code-ok) _ (k .sends-ok);
       }
 
-  all-ok : (v : Event) → ((c : Channel) → Fits v c) → (cs : List Channel) → Each ChannelOk cs → Each ChannelOk (nextsOf (s .desks) (s .size .desks) v cs) × AllRead (s .desks) (sendsOf (s .desks) (s .size .desks) v cs)
-  unfolding nextsOf sendsOf
-  all-ok v h [] o = (tt, tt)
-  all-ok v h (c ∷ cs) o =
-      let k = stays-ok v (contextOf (s .desks) (s .size .desks) c (holderPlace (c .holder))) c (own-ok (holderPlace (c .holder))) (h c) (o .0) in
-      let r = all-ok v h cs (o .1) in
-      let ss = movedIn (s .desks) (s .size .desks) v c .sends in
-      ((k .next-ok, r .0), each-append (Reads (s .desks)) (delivered (c .code) ss) (sendsOf (s .desks) (s .size .desks) v cs) (sent-reads (s .desks) (ok .desks-ok) (c .code) (o .0 .in-range .code-ok) ss (k .sends-ok)) (r .1))
+  all-read : (f : Channel → List Send) → ((c : Channel) → ChannelOk c → SendsOk (f c)) → (cs : List Channel) → Each ChannelOk cs → AllRead (s .desks) (sendsOf (s .desks) f cs)
+  unfolding sendsOf
+  all-read f h [] o = tt
+  all-read f h (c ∷ cs) o =
+      each-append (Reads (s .desks)) (delivered (s .desks) (c .code) (f c)) (sendsOf (s .desks) f cs)
+      (sent-reads (s .desks) (ok .desks-ok) (c .code) (o .0 .in-range .code-ok) (f c) (h c (o .0)))
+      (all-read f h cs (o .1))
+
+  all-next : (cs : List Channel) → Each ChannelOk cs → Each ChannelOk (map (ticked (s .desks) (s .size .desks)) cs)
+  all-next [] o = tt
+  all-next (c ∷ cs) o = (stays-ok Tick _ c tt (o .0) .next-ok, all-next cs (o .1))
 
   planned-ok : Each ChannelOk (channelsOf s)
   planned-ok = each-take ChannelOk (s .size .channels) (s .channels) (ok .channels-ok)
 
   tick-ok : EffectOk (onTick s)
   unfolding onTick
-  tick-ok =
-      let r = all-ok Tick (λ c. tt) (channelsOf s) planned-ok in
-      record {
-        set-ok = record { desks-ok = ok .desks-ok; channels-ok = each-append ChannelOk (nextsOf (s .desks) (s .size .desks) Tick (channelsOf s)) _ (r .0) (each-drop ChannelOk (s .size .channels) (s .channels) (ok .channels-ok)) };
-        sent-ok = r .1;
-      }
+  tick-ok = record {
+    set-ok = record { desks-ok = ok .desks-ok; channels-ok = each-append ChannelOk (map (ticked (s .desks) (s .size .desks)) (channelsOf s)) _ (all-next (channelsOf s) planned-ok) (each-drop ChannelOk (s .size .channels) (s .channels) (ok .channels-ok)) };
+    sent-ok = all-read (tickSends (s .desks) (s .size .desks)) (λ c o. stays-ok Tick _ c tt o .sends-ok) (channelsOf s) planned-ok;
+  }
+
+  ended-ok : (c : Channel) → ChannelOk c → SendsOk (endSends (s .desks) (s .size .desks) c)
+  ended-ok c o =
+      let e = listenersOf (s .desks) (s .size .desks) c in
+      each-append SendOk (happens EndTalk e c .sends) (happens EndCall e c .sends) (stays-ok EndTalk e c tt o .sends-ok) (stays-ok EndCall e c tt o .sends-ok)
 
   handover-ok : EffectOk (onHandover s)
   unfolding onHandover
   handover-ok = record {
     set-ok = record { desks-ok = no-desks 4; channels-ok = no-channels 32 };
-    sent-ok = all-ok Handover (λ c. tt) (channelsOf s) planned-ok .1;
+    sent-ok = all-read (endSends (s .desks) (s .size .desks)) ended-ok (channelsOf s) planned-ok;
   }
 
   link-ok : (d : ℕ) (f : Link → Link) → SetOk (withLink d f s)
@@ -153,15 +193,11 @@ module _ (s : LineSet) (ok : SetOk s) where
   answer-ok : (d a : ℕ) → EffectOk (answerTaken s d a)
   answer-ok d a = record { set-ok = link-ok d (answered a); sent-ok = tt }
 
-  order-fits : (t : Bool) (d : ℕ) (c : Channel) → Fits (cond t (Capture d) (Release d)) c
-  order-fits true d c = tt
-  order-fits false d c = tt
-
-  request-ok : (d : ℕ) (q : Request) → EffectOk (onRequest s d q)
-  request-ok d TellsTime = time-ok d
-  request-ok d (TellsState a) = answer-ok d a
-  request-ok d (AsksChannel ch n o) = on-ok ch d _ (order-fits (eqb o 1) d (channelAt s ch))
-  request-ok d Foreign = record { set-ok = ok; sent-ok = tt }
+  request-ok : (d : ℕ) (q : Request) → ((c : Channel) → EventFits q c) → EffectOk (onRequest s d q)
+  request-ok d (OfLink TellsTime) h = time-ok d
+  request-ok d (OfLink (TellsState a)) h = answer-ok d a
+  request-ok d (OnChannel ch n v) h = on-ok ch v (h (channelAt s ch))
+  request-ok d Foreign h = record { set-ok = ok; sent-ok = tt }
 
 -- ---- a plan that keeps its rules
 
@@ -256,19 +292,22 @@ plan-kept : (s : LineSet) (e : List ℕ) (x : Entry) → refusalOf s e x ≡ 0 �
 plan-kept s e x z k = holds (planOk (planIn e)) (rw k at (no-row s e x z .row6-fails))
 
 -- an accepted press is the holder's, and off only while on: rows 14 and 15
-held-by : (d : ℕ) (h : Holder) → heldBy d h ≡ true → isHeld h ≡ true
+held-by : (d : ℕ) (h : Party) → heldBy d h ≡ true → h ≡ By d
 held-by d Nobody e = absurd (false≢true e)
-held-by d (Held h) e = refl
+held-by d (By h) e = ap By (eqb-true h d e)
 
-press-fits : (s : LineSet) (e : List ℕ) (x : Entry) → x .on ≤ 1 → refusalOf s e x ≡ 0 → x .kind ≡ 2 → Fits (cond (eqb (x .on) 1) PressOn PressOff) (channelAt s (x .channel))
-press-fits s e x l z k =
+abbrev pressOf : LineSet → Entry → Bool → Event
+pressOf s x t = cond t (PressOn (x .desk) (ownOf (s .desks) (x .desk))) PressOff
+
+press-fits : (s : LineSet) → SetOk s → (e : List ℕ) (x : Entry) → x .on ≤ 1 → refusalOf s e x ≡ 0 → x .kind ≡ 2 → Fits (pressOf s x (eqb (x .on) 1)) (channelAt s (x .channel))
+press-fits s ok e x l z k =
     let r = no-row s e x z in
     go (channelAt s (x .channel)) (rw k at (r .row14-fails)) (rw k at (r .row15-fails)) (eqb (x .on) 1) refl
   where
-    go : (c : Channel) → not (heldBy (x .desk) (c .holder)) ≡ false → eqb (x .on) (cond (c .pressed) 1 0) ≡ false
-        → (t : Bool) → eqb (x .on) 1 ≡ t → Fits (cond t PressOn PressOff) c
-    go c h n true o = held-by (x .desk) (c .holder) (holds (heldBy (x .desk) (c .holder)) h)
-    go c h n false o = by-test (c .pressed) (λ p. p) (λ p. let off : x .on ≡ 0 = omega (arith, eqb-false (x .on) 1 o) in absurd (false≢true (sym (rw (p, off) at n))))
+    go : (c : Channel) → not (heldBy (x .desk) (c .holder)) ≡ false → eqb (x .on) (cond (isPressed c) 1 0) ≡ false
+        → (t : Bool) → eqb (x .on) 1 ≡ t → Fits (pressOf s x t) c
+    go c h n true o = (own-ok s ok (x .desk), held-by (x .desk) (c .holder) (holds (heldBy (x .desk) (c .holder)) h))
+    go c h n false o = by-test (isPressed c) (λ p. p) (λ p. let off : x .on ≡ 0 = omega (arith, eqb-false (x .on) 1 o) in absurd (false≢true (sym (rw (p, off) at n))))
 
 -- ---- every accepted entry, every entry, every feed
 
@@ -276,11 +315,11 @@ accepted-ok : (s : LineSet) → SetOk s → (e : List ℕ) (x : Entry) → Asked
 unfolding accepted
 accepted-ok s ok e x a z =
     pick-each EffectOk (x .kind) _ (ways s e x) (record { set-ok = ok; sent-ok = tt })
-    ((λ k. request-ok s ok (x .desk) (askedIn (readTelegram (telegramIn e))))
-    ▹ (λ k. on-ok s ok (x .channel) _ _ (press-fits s e x (a .on-ok) z k))
-    ▹ (λ k. on-ok s ok (x .channel) _ Cut tt)
-    ▹ (λ k. on-ok s ok (x .channel) _ _ (a .base-ok, a .number-ok))
-    ▹ (λ k. on-ok s ok (x .channel) _ MobileOff tt)
+    ((λ k. request-ok s ok (x .desk) (askedIn (x .desk) (readTelegram (telegramIn e))) (reading-fits (x .desk) (readTelegram (telegramIn e))))
+    ▹ (λ k. on-ok s ok (x .channel) _ (press-fits s ok e x (a .on-ok) z k))
+    ▹ (λ k. on-ok s ok (x .channel) Cut tt)
+    ▹ (λ k. on-ok s ok (x .channel) _ (a .base-ok, a .number-ok))
+    ▹ (λ k. on-ok s ok (x .channel) MobileOff tt)
     ▹ (λ k. tick-ok s ok)
     ▹ (λ k. plan-ok (planIn e) (plan-kept s e x z k))
     ▹ (λ k. handover-ok s ok)

@@ -25,7 +25,7 @@ module _ (s : LineSet) (e : List ℕ) (x : Entry) where
   r = readTelegram (telegramIn e)
 
   abbrev v : Lookup
-  v = lookup s (namedBy (askedIn r) x)
+  v = lookup s (namedBy (askedIn (x .desk) r) x)
 
   abbrev Fails : ℕ × Test → Type 0
   Fails row = (row .1) v e r x ≡ false

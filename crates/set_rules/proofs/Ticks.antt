@@ -11,19 +11,20 @@ use Rattle.laws.proofs.Tests.{by-test}
 use Rattle.channel.specs.State.{isIn}
 use Rattle.line_rules.specs.Rules.{happens, pressOff, tick, tickIdle, tickQuiet, tickRelease, endOf, freedSends}
 use Rattle.line_rules.specs.Promises.{quietly}
-use Rattle.channel.specs.declared.state.Holder.the-variants.{Held}
+use Rattle.channel.specs.declared.state.Party.the-variants.{By}
 use Rattle.channel.specs.declared.state.Call.{Call}
 use Rattle.channel.specs.declared.state.Arrival.the-variants.{Absent}
 use Rattle.channel.specs.declared.state.Channel.{Channel}
 use Rattle.channel.specs.declared.state.Send.{Send}
-use Rattle.set_rules.specs.State.{placeOf, hasChannel, channelAt}
+use Rattle.set_rules.specs.State.{placeOf, hasChannel, channelAt, listenersOf}
 use Rattle.set_rules.specs.Entries.{readEntry}
+use Rattle.laws.specs.Each.{Each}
 use Rattle.laws.specs.Table.{pick}
 use Rattle.set_rules.specs.Refusals.{firstOf, refusalOf}
 use Rattle.set_rules.specs.Records.{Delivery, delivered, recordsOf, spaceOf}
-use Rattle.set_rules.specs.SetRules.{contextOf, nextsOf, sendsOf, onChannel, onTick, accepted}
+use Rattle.set_rules.specs.SetRules.{sendsOf, onChannel, onTick, accepted}
 use Rattle.set_rules.specs.Feeds.{Outcome, outcomeOf, stepOf, stepBy, run}
-use Rattle.set_rules.specs.Promises.{entryOf, ticks, AllAccepted, Ticked}
+use Rattle.set_rules.specs.Promises.{entryOf, ticks, Accepted, Ticked}
 use Rattle.set_rules.proofs.Answers.{accepted-after}
 use Rattle.set_rules.proofs.Rows.{no-row}
 use Rattle.set_rules.specs.declared.state.Desk.{Desk}
@@ -57,13 +58,13 @@ kept : (s : LineSet) → (onTick s .after .planned ≡ s .planned) × (onTick s 
 unfolding onTick
 kept s = (refl, refl)
 
-bytes-of : (rooms : List ℕ) (s : LineSet) → s .planned ≡ true → AllAccepted (run s (ticks rooms))
+bytes-of : (rooms : List ℕ) (s : LineSet) → s .planned ≡ true → Each Accepted (run s (ticks rooms))
     → map (λ (o : Outcome). o .bytes) (run s (ticks rooms)) ≡ map (recordsOf (s .desks)) (sentBy (length rooms) s)
 unfolding run sentBy
 bytes-of [] s p a = refl
 bytes-of (room ∷ rooms) s p a =
     let k = tick-done s room p (a .0) in
-    let b : AllAccepted (run (onTick s .after) (ticks rooms)) = rw (k .after-is) at (a .1) in
+    let b : Each Accepted (run (onTick s .after) (ticks rooms)) = rw (k .after-is) at (a .1) in
     let r = rw (kept s .1) at (bytes-of rooms (onTick s .after) (kept s .0 ∙ p) b) in
     rw (k .bytes-are, k .after-is, r)
 
@@ -75,10 +76,10 @@ setWith c rest ds n = record { channels = c ∷ rest; desks = ds; size = record 
 ticking : (code entitled d n : ℕ) (k : Call) (rest : List Channel) (ds : List Desk)
     → sentBy 130 (setWith (quietly code entitled d k) rest ds n)
     ≡ replicate 9 []
-    ++ ((delivered code (endOf 3 k) ++ [])
+    ++ ((delivered ds code (endOf 3 k) ++ [])
     ∷ replicate 119 []
-    ++ ((delivered code (freedSends (contextOf ds n (quietly code entitled d k) d) (quietly code entitled d k)) ++ []) ∷ []))
-unfolding quietly sentBy onTick nextsOf sendsOf delivered happens tick tickIdle tickQuiet tickRelease
+    ++ ((delivered ds code (freedSends (listenersOf ds n (quietly code entitled d k)) (quietly code entitled d k)) ++ []) ∷ []))
+unfolding quietly sentBy onTick sendsOf delivered happens tick tickIdle tickQuiet tickRelease
 ticking code entitled d n k rest ds = refl
 
 -- ---- an accepted press off on the one channel
@@ -106,7 +107,7 @@ one-place c rest ds n ch h = go (eqb (c .code) ch) h
     go true h = refl
     go false h = absurd (false≢true h)
 
-let-go : (c : Channel) (rest : List Channel) (ds : List Desk) (n d : ℕ) (e : List ℕ) (x : Entry) → c .holder ≡ Held d → c .arrival ≡ Absent
+let-go : (c : Channel) (rest : List Channel) (ds : List Desk) (n d : ℕ) (e : List ℕ) (x : Entry) → c .holder ≡ By d → c .arrival ≡ Absent
     → x .kind ≡ 2 → x .on ≡ 0 → eqb (c .code) (x .channel) ≡ true
     → accepted (setWith c rest ds n) e x .after ≡ setWith (quietly (c .code) (c .entitled) d (c .call)) rest ds n
 unfolding pick accepted onChannel placeOf happens pressOff quietly
@@ -132,12 +133,12 @@ ticked s c rest d one cs h a i k o z rooms l all =
     let s₁ = setWith q rest (s .desks) (s .size .desks) in
     let g : stepBy s i .after ≡ s₁ =
     f .1 ∙ ap (λ (t : LineSet). accepted t (i .entry) x .after) e ∙ let-go c rest (s .desks) (s .size .desks) d (i .entry) x h a k o m in
-    let w : freedSends (contextOf (s .desks) (s .size .desks) q d) q ≡ freedSends (contextOf (s .desks) (s .size .desks) c d) c = rw h in
+    let w : freedSends (listenersOf (s .desks) (s .size .desks) q) q ≡ freedSends (listenersOf (s .desks) (s .size .desks) c) c = rw h in
     ap (λ (t : LineSet). map (λ (y : Outcome). y .bytes) (run t (ticks rooms))) g
     ∙ bytes-of rooms s₁ refl (rw g at all)
     ∙ ap (λ (j : ℕ). map (recordsOf (s .desks)) (sentBy j s₁)) l
     ∙ ap (map (recordsOf (s .desks))) (ticking (c .code) (c .entitled) d (s .size .desks) (c .call) rest (s .desks))
-    ∙ in-words (s .desks) (delivered (c .code) (endOf 3 (c .call))) (delivered (c .code) (freedSends (contextOf (s .desks) (s .size .desks) q d) q))
+    ∙ in-words (s .desks) (delivered (s .desks) (c .code) (endOf 3 (c .call))) (delivered (s .desks) (c .code) (freedSends (listenersOf (s .desks) (s .size .desks) q) q))
     ∙ ap
-    (λ (n : List Send). replicate 9 [] ++ (recordsOf (s .desks) (delivered (c .code) (endOf 3 (c .call))) ∷ replicate 119 [] ++ (recordsOf (s .desks) (delivered (c .code) n) ∷ [])))
+    (λ (n : List Send). replicate 9 [] ++ (recordsOf (s .desks) (delivered (s .desks) (c .code) (endOf 3 (c .call))) ∷ replicate 119 [] ++ (recordsOf (s .desks) (delivered (s .desks) (c .code) n) ∷ [])))
     w

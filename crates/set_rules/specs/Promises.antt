@@ -13,13 +13,13 @@ use Rattle.line_rules.specs.Notices.{telegram}
 use Rattle.line_rules.specs.Rules.{endOf, freedSends}
 use Rattle.channel.specs.declared.state.Arrival.the-variants.{Absent}
 use Rattle.channel.specs.declared.state.Channel.{Channel}
-use Rattle.channel.specs.declared.state.Holder.{Holder}
-use Rattle.channel.specs.declared.state.Holder.the-variants.{Nobody, Held}
-use Rattle.set_rules.specs.State.{newSet, noDesk, channelAt}
+use Rattle.channel.specs.declared.state.Party.{Party}
+use Rattle.channel.specs.declared.state.Party.the-variants.{Nobody, By}
+use Rattle.set_rules.specs.State.{newSet, noDesk, channelAt, listenersOf}
 use Rattle.set_rules.specs.Entries.{byte, mobileIn, readEntry}
 use Rattle.set_rules.specs.Refusals.{isCaller}
 use Rattle.set_rules.specs.Records.{measuredBytes, Delivery, delivered, recordsOf}
-use Rattle.set_rules.specs.SetRules.{contextOf, accepted}
+use Rattle.set_rules.specs.SetRules.{accepted}
 use Rattle.set_rules.specs.Invariant.{SetOk}
 use Rattle.set_rules.specs.Feeds.{Outcome, Item, stepOf, stepBy, run, after, Seen, views}
 use Rattle.set_rules.specs.declared.state.Desk.{Desk}
@@ -62,9 +62,9 @@ pub record Renumbered (e e′ : List ℕ) : Type 0 where
   pub callers : readEntry e .refusal ≡ 0 → isCaller (mobileIn e) ≡ isCaller (mobileIn e′)
 
 -- "a desk other than B holds"
-abbrev pub OtherHolds : ℕ → Holder → Type 0
+abbrev pub OtherHolds : ℕ → Party → Type 0
 OtherHolds B Nobody = ⊥
-OtherHolds B (Held d) = d ≡ B → ⊥
+OtherHolds B (By d) = d ≡ B → ⊥
 
 -- Two entries that may stand for each other before a set: the same bytes, or mobile ons "whose channel a desk other than B holds".
 pub data MayDiffer (B : ℕ) (s : LineSet) (e e′ : List ℕ) : Type 0 where
@@ -160,9 +160,8 @@ cases =
     ∷ case untilRunning (record { entry = captureEntry 7; room = 59 }) 0
     ∷ []
 
-abbrev pub Hold : List Case → Type 0
-Hold [] = Unit {0}
-Hold (c ∷ cs) = (stepBy (after newSet (c .before)) (c .entry) .refusal ≡ c .refusal) × Hold cs
+abbrev pub Holds : Case → Type 0
+Holds c = stepBy (after newSet (c .before)) (c .entry) .refusal ≡ c .refusal
 
 -- The claim speaks of something (`Witness.witness`): two desks share channel 7, desk 0 holds it, and the feeds differ in the
 -- number of a mobile under it. Desk 1 receives the 550651 of the capture, 34 bytes, and desk 0 does get the number.
@@ -190,23 +189,22 @@ abbrev pub ticks : List ℕ → List Item
 ticks [] = []
 ticks (room ∷ rooms) = record { entry = entryOf 6 []; room = room } ∷ ticks rooms
 
-abbrev pub AllAccepted : List Outcome → Type 0
-AllAccepted [] = Unit {0}
-AllAccepted (o ∷ os) = (o .refusal ≡ 0) × AllAccepted os
+abbrev pub Accepted : Outcome → Type 0
+Accepted o = o .refusal ≡ 0
 
 -- "After the holder's press off with no arrival, one channel planned, and accepted ticks only, 9 send nothing, the tenth ends the
 -- call, and the 130th releases."
 abbrev pub Ticked : Type 0
 Ticked =
-    (s : LineSet) (c : Channel) (rest : List Channel) (d : ℕ) → s .size .channels ≡ 1 → s .channels ≡ c ∷ rest → c .holder ≡ Held d → c .arrival ≡ Absent
+    (s : LineSet) (c : Channel) (rest : List Channel) (d : ℕ) → s .size .channels ≡ 1 → s .channels ≡ c ∷ rest → c .holder ≡ By d → c .arrival ≡ Absent
     → (i : Item) → readEntry (i .entry) .kind ≡ 2 → readEntry (i .entry) .on ≡ 0 → stepBy s i .refusal ≡ 0
-    → (rooms : List ℕ) → length rooms ≡ 130 → AllAccepted (run (stepBy s i .after) (ticks rooms))
+    → (rooms : List ℕ) → length rooms ≡ 130 → Each Accepted (run (stepBy s i .after) (ticks rooms))
     → map (λ (o : Outcome). o .bytes) (run (stepBy s i .after) (ticks rooms))
-    ≡ replicate 9 [] ++ (recordsOf (s .desks) (delivered (c .code) (endOf 3 (c .call))) ∷ replicate 119 [] ++ (recordsOf (s .desks) (delivered (c .code) (freedSends (contextOf (s .desks) (s .size .desks) c d) c)) ∷ []))
+    ≡ replicate 9 [] ++ (recordsOf (s .desks) (delivered (s .desks) (c .code) (endOf 3 (c .call))) ∷ replicate 119 [] ++ (recordsOf (s .desks) (delivered (s .desks) (c .code) (freedSends (listenersOf (s .desks) (s .size .desks) c) c)) ∷ []))
 
 -- All cases marked (p) in 01: those of the reader, those of entries, and the ticks (`AllMarked.marked`).
 abbrev pub Marked : Type 0
-Marked = ReaderMarked × (Hold cases × Ticked)
+Marked = ReaderMarked × (Each Holds cases × Ticked)
 
 -- ---- 5. What is sent reads as meant (`Readable.readable`)
 

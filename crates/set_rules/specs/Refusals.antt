@@ -13,15 +13,19 @@ use Rattle.telegram.specs.declared.message.Message.the-variants.{TimeNotice, Op
 use Rattle.telegram.specs.declared.message.Reading.{Reading}
 use Rattle.telegram.specs.declared.message.Reading.the-variants.{Telegram as Read, Refused}
 use Rattle.channel.specs.State.{isIn, heldBy, isPresent}
+use Rattle.line_rules.specs.Rules.{isPressed}
 use Rattle.set_rules.specs.State.{noDesk, hasChannel, channelAt}
 use Rattle.set_rules.specs.Entries.{telegramIn, planIn}
 use Rattle.set_rules.specs.Plan.{planOk}
 use Rattle.channel.specs.declared.state.Channel.{Channel}
+use Rattle.channel.specs.declared.state.Event.the-variants.{Capture, Release}
 use Rattle.set_rules.specs.declared.state.Desk.{Desk}
 use Rattle.set_rules.specs.declared.state.LineSet.{LineSet}
 use Rattle.set_rules.specs.declared.state.Entry.{Entry}
+use Rattle.set_rules.specs.declared.state.LinkRequest.{LinkRequest}
+use Rattle.set_rules.specs.declared.state.LinkRequest.the-variants.{TellsTime, TellsState}
 use Rattle.set_rules.specs.declared.state.Request.{Request}
-use Rattle.set_rules.specs.declared.state.Request.the-variants.{TellsTime, TellsState, AsksChannel, Foreign}
+use Rattle.set_rules.specs.declared.state.Request.the-variants.{OfLink, OnChannel, Foreign}
 
 -- What the rows go by beside the entry: whether there is a plan, its desks, and the channel that the entry names, if the plan has
 -- it.
@@ -64,40 +68,39 @@ abbrev pub bodyReads : Reading → Bool
 bodyReads (Read c m) = true
 bodyReads (Refused n c i) = false
 
--- what a desk asks by telegram
-abbrev pub askedBy : Message → Request
-askedBy (TimeNotice m) = TellsTime
-askedBy (OperationAnswer m) = TellsState (m .state)
-askedBy TimeRequest = Foreign
-askedBy (BaseArrival m) = Foreign
-askedBy OperationRequest = Foreign
-askedBy (Call m) = Foreign
-askedBy (CallerNotice m) = Foreign
-askedBy (CaptureRequest m) = AsksChannel (m .channel) (m .number) (m .order)
-askedBy (CaptureReply m) = Foreign
-askedBy (CaptureState m) = Foreign
+-- what desk d asks by telegram; a 550600 has order 1 to capture and 0 to release
+abbrev pub askedBy : ℕ → Message → Request
+askedBy d (TimeNotice m) = OfLink TellsTime
+askedBy d (OperationAnswer m) = OfLink (TellsState (m .state))
+askedBy d TimeRequest = Foreign
+askedBy d (BaseArrival m) = Foreign
+askedBy d OperationRequest = Foreign
+askedBy d (Call m) = Foreign
+askedBy d (CallerNotice m) = Foreign
+askedBy d (CaptureRequest m) = OnChannel (m .channel) (m .number) (cond (eqb (m .order) 1) (Capture d) (Release d))
+askedBy d (CaptureReply m) = Foreign
+askedBy d (CaptureState m) = Foreign
 
-abbrev pub askedIn : Reading → Request
-askedIn (Read c m) = askedBy m
-askedIn (Refused n c i) = Foreign
+abbrev pub askedIn : ℕ → Reading → Request
+askedIn d (Read c m) = askedBy d m
+askedIn d (Refused n c i) = Foreign
 
 -- "In phase 1 only 550411 is taken", "In phase 2 only 550421", "550600, press and cut need" phase 3
 abbrev pub phaseOf : Request → ℕ
-phaseOf TellsTime = 1
-phaseOf (TellsState a) = 2
-phaseOf (AsksChannel ch n o) = 3
+phaseOf (OfLink TellsTime) = 1
+phaseOf (OfLink (TellsState a)) = 2
+phaseOf (OnChannel ch n v) = 3
 phaseOf Foreign = 3
 
--- what hangs on the channel and the number of a 550600, and z for the other telegrams
-abbrev pub ofCapture : {A : Type 0} → A → (ℕ → Number → A) → Request → A
-ofCapture z f TellsTime = z
-ofCapture z f (TellsState a) = z
-ofCapture z f (AsksChannel ch n o) = f ch n
-ofCapture z f Foreign = z
+-- what hangs on the channel and the number that a telegram names, and z where it names none
+abbrev pub named : {A : Type 0} → A → (ℕ → Number → A) → Request → A
+named z f (OfLink q) = z
+named z f (OnChannel ch n v) = f ch n
+named z f Foreign = z
 
 -- the channel that an entry names; a telegram about the link names none
 abbrev pub channelIn : Request → ℕ
-channelIn = ofCapture 0 (λ ch n. ch)
+channelIn = named 0 (λ ch n. ch)
 
 abbrev pub namedBy : Request → Entry → ℕ
 namedBy q x = cond (isKind 1 x) (channelIn q) (x .channel)
@@ -147,12 +150,12 @@ row10 v e r x = isKind 1 x && not (bodyReads r)
 
 -- "the desk's link is not in the phase needed"
 abbrev pub row11 : Test
-row11 v e r x = fromDesk x && not (eqb (deskOf v x .link .phase) (cond (isKind 1 x) (phaseOf (askedIn r)) 3))
+row11 v e r x = fromDesk x && not (eqb (deskOf v x .link .phase) (cond (isKind 1 x) (phaseOf (askedIn (x .desk) r)) 3))
 
 -- "channel not in the plan, or desk not entitled"
 abbrev pub row12 : Test
 row12 v e r x =
-    cond (isKind 1 x) (not (ofCapture true (λ ch n. mayUse v (x .desk)) (askedIn r)))
+    cond (isKind 1 x) (not (named true (λ ch n. mayUse v (x .desk)) (askedIn (x .desk) r)))
     (cond (isKind 2 x || isKind 3 x) (not (mayUse v (x .desk)))
     (cond (isKind 4 x || isKind 5 x) (not (v .found))
     false))
@@ -160,7 +163,7 @@ row12 v e r x =
 -- "550600 number not the desk's own; mobile's number not 8 digits or the none-number"
 abbrev pub row13 : Test
 row13 v e r x =
-    cond (isKind 1 x) (not (ofCapture true (λ ch n. eqb (n .digits) (deskOf v x .number .digits)) (askedIn r)))
+    cond (isKind 1 x) (not (named true (λ ch n. eqb (n .digits) (deskOf v x .number .digits)) (askedIn (x .desk) r)))
     (cond (isKind 4 x) (not (isCaller (x .number)))
     false)
 
@@ -171,7 +174,7 @@ row14 v e r x = (isKind 2 x || isKind 3 x) && not (heldBy (x .desk) (v .channel 
 -- "press on while on, off while off; mobile the same"
 abbrev pub row15 : Test
 row15 v e r x =
-    cond (isKind 2 x) (eqb (x .on) (cond (v .channel .pressed) 1 0))
+    cond (isKind 2 x) (eqb (x .on) (cond (isPressed (v .channel)) 1 0))
     (cond (isKind 4 x) (isPresent (v .channel .arrival))
     (cond (isKind 5 x) (not (isPresent (v .channel .arrival)))
     false))
@@ -190,4 +193,4 @@ firstOf (row ∷ rows) v e r x = cond ((row .1) v e r x) (row .0) (firstOf rows 
 unfoldable pub refusalOf : LineSet → List ℕ → Entry → ℕ
 refusalOf s e x =
     let r : Reading = readTelegram (telegramIn e) in
-    cond (eqb (x .refusal) 0) (firstOf table (lookup s (namedBy (askedIn r) x)) e r x) (x .refusal)
+    cond (eqb (x .refusal) 0) (firstOf table (lookup s (namedBy (askedIn (x .desk) r) x)) e r x) (x .refusal)

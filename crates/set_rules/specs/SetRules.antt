@@ -1,22 +1,23 @@
 -- 01, Line rules: what an accepted entry does to the set, and what it sends.
 use Prim.Native.Nat.{ℕ}
-use mathlib.Core.List.{List, [], _∷_, _++_}
+use mathlib.Core.List.{List, [], _∷_, _++_, map}
 use mathlib.Core.Bool.{cond}
 use lib.Dec.{eqb}
-use lib.ListN.{drop, getD, set}
+use lib.ListN.{drop, set}
 use Rattle.fields.specs.declared.digits.Digits.{Digits}
 use Rattle.fields.specs.declared.digits.Digits.the-variants.{Value, Malformed}
 use Rattle.telegram.specs.Telegram.{num, readTelegram}
 use Rattle.telegram.specs.declared.message.Number.{Number}
 use Rattle.telegram.specs.declared.message.Message.{Message}
 use Rattle.telegram.specs.declared.message.Message.the-variants.{TimeRequest, OperationRequest}
-use Rattle.channel.specs.State.{only, firstDesks, holderPlace}
-use Rattle.line_rules.specs.Rules.{Context, Step, happens}
+use Rattle.channel.specs.State.{only, firstDesks}
+use Rattle.line_rules.specs.Rules.{Step, happens}
 use Rattle.line_rules.specs.Notices.{telegram}
 use Rattle.channel.specs.declared.state.Channel.{Channel}
 use Rattle.channel.specs.declared.state.Event.{Event}
-use Rattle.channel.specs.declared.state.Event.the-variants.{Capture, Release, Cut, PressOn, PressOff, MobileOn, MobileOff, Tick, Handover}
-use Rattle.set_rules.specs.State.{newSet, noDesk, channelsOf, placeIn, channelAt, listenersOf, withChannels, timeTold, answered, withLink}
+use Rattle.channel.specs.declared.state.Event.the-variants.{Cut, PressOn, PressOff, MobileOn, MobileOff, Tick, EndTalk, EndCall}
+use Rattle.channel.specs.declared.state.Send.{Send}
+use Rattle.set_rules.specs.State.{newSet, ownOf, channelsOf, placeIn, channelAt, listenersOf, withChannels, timeTold, answered, withLink}
 use Rattle.set_rules.specs.Entries.{telegramIn, planIn}
 use Rattle.laws.specs.Table.{pick}
 use Rattle.set_rules.specs.Plan.{setOf}
@@ -25,8 +26,10 @@ use Rattle.set_rules.specs.Records.{Delivery, delivered}
 use Rattle.set_rules.specs.declared.state.Desk.{Desk}
 use Rattle.set_rules.specs.declared.state.LineSet.{LineSet}
 use Rattle.set_rules.specs.declared.state.Entry.{Entry}
+use Rattle.set_rules.specs.declared.state.LinkRequest.{LinkRequest}
+use Rattle.set_rules.specs.declared.state.LinkRequest.the-variants.{TellsTime, TellsState}
 use Rattle.set_rules.specs.declared.state.Request.{Request}
-use Rattle.set_rules.specs.declared.state.Request.the-variants.{TellsTime, TellsState, AsksChannel, Foreign}
+use Rattle.set_rules.specs.declared.state.Request.the-variants.{OfLink, OnChannel, Foreign}
 
 -- the set after, what is sent, and the desks whose codes the records bear
 pub record Effect : Type 0 where
@@ -53,49 +56,44 @@ answerTaken s d state = effect s (withLink d (answered state) s) []
 
 -- ---- channels
 
--- the rule's context, by the desks and how many of them the plan has; d is the desk that holds the channel or asks for it
-abbrev pub contextOf : List Desk → ℕ → Channel → ℕ → Context
-contextOf ds n c d = record { listeners = listenersOf ds n c; own = getD ds d noDesk .number }
-
-abbrev pub movedBy : List Desk → ℕ → ℕ → Event → Channel → Step
-movedBy ds n d v c = happens v (contextOf ds n c d) c
-
--- an event on one channel, by its code
-unfoldable pub onChannel : LineSet → ℕ → ℕ → Event → Effect
-onChannel s ch d v =
-    effect s
-    (withChannels (set (s .channels) (placeIn s ch) (movedBy (s .desks) (s .size .desks) d v (channelAt s ch) .next)) s)
-    (delivered (channelAt s ch .code) (movedBy (s .desks) (s .size .desks) d v (channelAt s ch) .sends))
-
--- an event by the holder, if there is one
-abbrev pub byHolder : LineSet → ℕ → Event → Effect
-byHolder s ch v = onChannel s ch (holderPlace (channelAt s ch .holder)) v
-
+-- what an event does to a channel, by the desks and how many of them the plan has
 abbrev pub movedIn : List Desk → ℕ → Event → Channel → Step
-movedIn ds n v c = movedBy ds n (holderPlace (c .holder)) v c
+movedIn ds n v c = happens v (listenersOf ds n c) c
 
 abbrev pub sentIn : List Desk → ℕ → Event → Channel → List Delivery
-sentIn ds n v c = delivered (c .code) (movedIn ds n v c .sends)
+sentIn ds n v c = delivered ds (c .code) (movedIn ds n v c .sends)
 
--- an event on every channel of the plan, in its order
-unfoldable pub nextsOf : List Desk → ℕ → Event → List Channel → List Channel
-nextsOf ds n v [] = []
-nextsOf ds n v (c ∷ cs) = movedIn ds n v c .next ∷ nextsOf ds n v cs
+-- an event on one channel, by its code
+unfoldable pub onChannel : LineSet → ℕ → Event → Effect
+onChannel s ch v =
+    effect s
+    (withChannels (set (s .channels) (placeIn s ch) (movedIn (s .desks) (s .size .desks) v (channelAt s ch) .next)) s)
+    (sentIn (s .desks) (s .size .desks) v (channelAt s ch))
 
-unfoldable pub sendsOf : List Desk → ℕ → Event → List Channel → List Delivery
-sendsOf ds n v [] = []
-sendsOf ds n v (c ∷ cs) = sentIn ds n v c ++ sendsOf ds n v cs
+-- what all channels of the plan send, in its order, by what each does
+unfoldable pub sendsOf : List Desk → (Channel → List Send) → List Channel → List Delivery
+sendsOf ds f [] = []
+sendsOf ds f (c ∷ cs) = delivered ds (c .code) (f c) ++ sendsOf ds f cs
 
 -- "Tick, channels in plan order"
+abbrev pub ticked : List Desk → ℕ → Channel → Channel
+ticked ds n c = movedIn ds n Tick c .next
+
+abbrev pub tickSends : List Desk → ℕ → Channel → List Send
+tickSends ds n c = movedIn ds n Tick c .sends
+
 unfoldable pub onTick : LineSet → Effect
 onTick s =
     effect s
-    (withChannels (nextsOf (s .desks) (s .size .desks) Tick (channelsOf s) ++ drop (s .size .channels) (s .channels)) s)
-    (sendsOf (s .desks) (s .size .desks) Tick (channelsOf s))
+    (withChannels (map (ticked (s .desks) (s .size .desks)) (channelsOf s) ++ drop (s .size .channels) (s .channels)) s)
+    (sendsOf (s .desks) (tickSends (s .desks) (s .size .desks)) (channelsOf s))
 
 -- "Handover, per channel in plan order .. Then the set is a new one, without plan."
+abbrev pub endSends : List Desk → ℕ → Channel → List Send
+endSends ds n c = movedIn ds n EndTalk c .sends ++ movedIn ds n EndCall c .sends
+
 unfoldable pub onHandover : LineSet → Effect
-onHandover s = effect s newSet (sendsOf (s .desks) (s .size .desks) Handover (channelsOf s))
+onHandover s = effect s newSet (sendsOf (s .desks) (endSends (s .desks) (s .size .desks)) (channelsOf s))
 
 -- ---- entries
 
@@ -103,11 +101,14 @@ onHandover s = effect s newSet (sendsOf (s .desks) (s .size .desks) Handover (ch
 abbrev pub onPlan : List ℕ → Effect
 onPlan p = effect (setOf p) (setOf p) (telegramTo (firstDesks (setOf p .size .desks)) TimeRequest)
 
--- what a desk's telegram does; a 550600 has order 1 to capture and 0 to release
+-- what a desk's telegram does
+abbrev pub onLink : LineSet → ℕ → LinkRequest → Effect
+onLink s d TellsTime = timeTaken s d
+onLink s d (TellsState a) = answerTaken s d a
+
 abbrev pub onRequest : LineSet → ℕ → Request → Effect
-onRequest s d TellsTime = timeTaken s d
-onRequest s d (TellsState a) = answerTaken s d a
-onRequest s d (AsksChannel ch n o) = onChannel s ch d (cond (eqb o 1) (Capture d) (Release d))
+onRequest s d (OfLink q) = onLink s d q
+onRequest s d (OnChannel ch n v) = onChannel s ch v
 onRequest s d Foreign = effect s s []
 
 abbrev pub numberIn : Digits → Number
@@ -117,11 +118,11 @@ numberIn Malformed = num 0
 -- what an accepted entry does, by its kind
 abbrev pub ways : LineSet → List ℕ → Entry → List (ℕ × Effect)
 ways s e x =
-    (1, onRequest s (x .desk) (askedIn (readTelegram (telegramIn e))))
-    ∷ (2, byHolder s (x .channel) (cond (eqb (x .on) 1) PressOn PressOff))
-    ∷ (3, byHolder s (x .channel) Cut)
-    ∷ (4, byHolder s (x .channel) (MobileOn (x .base) (numberIn (x .number))))
-    ∷ (5, byHolder s (x .channel) MobileOff)
+    (1, onRequest s (x .desk) (askedIn (x .desk) (readTelegram (telegramIn e))))
+    ∷ (2, onChannel s (x .channel) (cond (eqb (x .on) 1) (PressOn (x .desk) (ownOf (s .desks) (x .desk))) PressOff))
+    ∷ (3, onChannel s (x .channel) Cut)
+    ∷ (4, onChannel s (x .channel) (MobileOn (x .base) (numberIn (x .number))))
+    ∷ (5, onChannel s (x .channel) MobileOff)
     ∷ (6, onTick s)
     ∷ (7, onPlan (planIn e))
     ∷ (8, onHandover s)

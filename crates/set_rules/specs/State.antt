@@ -5,6 +5,7 @@ use mathlib.Core.Bool.{Bool, false, _&&_, cond}
 use lib.Dec.{eqb, ltb}
 use lib.ListN.{length, take, getD, replicate, set}
 use Rattle.telegram.specs.Telegram.{num}
+use Rattle.telegram.specs.declared.message.Number.{Number}
 use Rattle.channel.specs.State.{freeChannel, only, isIn}
 use Rattle.channel.specs.declared.state.Channel.{Channel}
 use Rattle.set_rules.specs.declared.state.Link.{Link}
@@ -26,6 +27,10 @@ answered state l = cond (eqb state 1) (record { phase = 3 }) l
 -- what fills the arrays past the plan
 abbrev pub noDesk : Desk
 noDesk = record { code = 0; number = num 0; link = newLink }
+
+-- a desk's own number, by its place
+abbrev pub ownOf : List Desk → ℕ → Number
+ownOf ds d = getD ds d noDesk .number
 
 abbrev pub noChannel : Channel
 noChannel = freeChannel 0 0

@@ -1,5 +1,6 @@
 // The state of a line set, and what an entry asks of it.
 use channel::Channel;
+use channel::Event;
 use fields::Digits;
 use telegram::Number;
 ghost use mathlib.Core.Path.{_≡_};
@@ -97,19 +98,22 @@ pub struct Entry {
     pub number: Digits,
 }
 
-// What a desk asks by telegram: a case for each telegram that a desk sends, with what the set goes by.
-pub enum Request {
+// What a desk says of its link.
+pub enum LinkRequest {
     // 550411: the time, which the set does not keep.
     TellsTime,
     // 550421: whether the desk operates.
-    TellsState {
-        state: u32,
-    },
-    // 550600: order 1 captures, 0 releases.
-    AsksChannel {
+    TellsState { state: u32 },
+}
+
+// What a desk asks by telegram.
+pub enum Request {
+    OfLink(LinkRequest),
+    // What is to happen on a channel, if the number is the desk's own.
+    OnChannel {
         channel: u32,
         number: Number,
-        order: u32,
+        event: Event,
     },
     // A telegram that no desk sends.
     Foreign,
