@@ -2,7 +2,7 @@
 -- Assumes nothing.
 use Prim.Native.Nat.{ℕ, _+_, _*_, _≤_, _<_}
 use mathlib.Core.List.{List, [], _∷_}
-use mathlib.Core.Path.{_≡_, refl, sym, ap, _∙_}
+use mathlib.Core.Path.{_≡_, refl, ap, _∙_}
 use native.Mathlib.Numerals.{add-one}
 use native.Mathlib.Omega.{arith}
 use lib.Count.{onesIn}
@@ -10,12 +10,14 @@ use lib.ListN.{length, drop, getD, drop-of-length-le}
 use lib.Seq.{drop-cons}
 use Rattle.line_rules.specs.Notices.{contentFor}
 use Rattle.channel.specs.declared.state.Send.{Send}
+use Rattle.set_rules.specs.State.{ownOf}
 use Rattle.set_rules.specs.Records.{Delivery, delivered, recordSize, recordsOf, spaceOf, toEach}
 use Rattle.set_rules.specs.declared.state.Desk.{Desk}
 use Rattle.set_rules.proofs.Answers.{halves}
-use Rattle.records.specs.Emitting.{deliveryOf}
+use Rattle.records.specs.Emitting.{deliveryOf, shapeOf, sizeIn}
+use Rattle.records.specs.declared.body.Body.the-variants.{About}
 use Rattle.records.proofs.Writing.{Split}
-use Rattle.records.proofs.RecordLaws.{notice-alike, each-none, records-one}
+use Rattle.records.proofs.RecordLaws.{notice-size, each-none, records-one}
 
 -- a delivery to nobody
 pub nobody : (ds : List Desk) (v : Delivery) → v .recipients ≡ 0 → toEach 8 0 ds v ≡ []
@@ -23,32 +25,32 @@ unfolding halves
 nobody ds v h = each-none 8 0 ds v h
 
 pub send-turn : (ds : List Desk) (ch : ℕ) (ss : List Send) (k : ℕ) (z : Send) → k < length ss
-    → Split (recordsOf ds (delivered ch (drop k ss))) (recordsOf ds (deliveryOf ch (getD ss k z) ∷ [])) (recordsOf ds (delivered ch (drop (k + 1) ss)))
+    → Split (recordsOf ds (delivered ds ch (drop k ss))) (recordsOf ds (deliveryOf ds ch (getD ss k z) ∷ [])) (recordsOf ds (delivered ds ch (drop (k + 1) ss)))
 unfolding recordsOf delivered
 send-turn ds ch ss k z h = record { parts = rw (add-one, drop-cons ss k z h, records-one) refl }
 
-pub send-end : (ds : List Desk) (ch : ℕ) (ss : List Send) (k : ℕ) → length ss ≤ k → recordsOf ds (delivered ch (drop k ss)) ≡ []
+pub send-end : (ds : List Desk) (ch : ℕ) (ss : List Send) (k : ℕ) → length ss ≤ k → recordsOf ds (delivered ds ch (drop k ss)) ≡ []
 unfolding recordsOf delivered
 send-end ds ch ss k h = rw (drop-of-length-le ss h) refl
 
 -- the space that the send at k adds to that of those after it
-space-turn : (ch : ℕ) (ss : List Send) (k : ℕ) (z : Send) → k < length ss
-    → spaceOf (delivered ch (drop k ss)) ≡ onesIn 8 (getD ss k z .recipients) * recordSize (contentFor 0 ch (getD ss k z .notice)) + spaceOf (delivered ch (drop (k + 1) ss))
+space-turn : (ds : List Desk) (ch : ℕ) (ss : List Send) (k : ℕ) (z : Send) → k < length ss
+    → spaceOf (delivered ds ch (drop k ss)) ≡ onesIn 8 (getD ss k z .recipients) * recordSize (contentFor 0 (ownOf ds 0) ch (getD ss k z .notice)) + spaceOf (delivered ds ch (drop (k + 1) ss))
 unfolding spaceOf delivered
-space-turn ch ss k z h = rw (add-one, drop-cons ss k z h) refl
+space-turn ds ch ss k z h = rw (add-one, drop-cons ss k z h) refl
 
 -- a turn of the loop that sums up: `sum` so far, and `one` for the send at k, of the size that its notice has about any channel
-pub space-next : (ch : ℕ) (ss : List Send) (k : ℕ) (z : Send) (sum : ℕ) {one size total : ℕ}
+pub space-next : (ds : List Desk) (ch : ℕ) (ss : List Send) (k : ℕ) (z : Send) (sum : ℕ) {one size total : ℕ}
     → k < length ss
-    → sum + spaceOf (delivered ch (drop k ss)) ≡ total
-    → size ≡ recordSize (contentFor 0 0 (getD ss k z .notice))
+    → sum + spaceOf (delivered ds ch (drop k ss)) ≡ total
+    → size ≡ sizeIn (shapeOf (About 0 (getD ss k z .notice)))
     → one ≡ onesIn 8 (getD ss k z .recipients) * size
-    → sum + one + spaceOf (delivered ch (drop (k + 1) ss)) ≡ total
-space-next ch ss k z sum {one} {size} {total} h e es eo =
-    let turn = space-turn ch ss k z h in
-    let same = es ∙ sym (notice-alike 0 ch (getD ss k z .notice) .size) in
+    → sum + one + spaceOf (delivered ds ch (drop (k + 1) ss)) ≡ total
+space-next ds ch ss k z sum {one} {size} {total} h e es eo =
+    let turn = space-turn ds ch ss k z h in
+    let same = es ∙ notice-size 0 (ownOf ds 0) ch (getD ss k z .notice) in
     omega (arith, turn, eo ∙ ap (λ (n : ℕ). onesIn 8 (getD ss k z .recipients) * n) same, e)
 
-pub space-end : (ch : ℕ) (ss : List Send) (k : ℕ) → length ss ≤ k → spaceOf (delivered ch (drop k ss)) ≡ 0
+pub space-end : (ds : List Desk) (ch : ℕ) (ss : List Send) (k : ℕ) → length ss ≤ k → spaceOf (delivered ds ch (drop k ss)) ≡ 0
 unfolding spaceOf delivered
-space-end ch ss k h = rw (drop-of-length-le ss h) refl
+space-end ds ch ss k h = rw (drop-of-length-le ss h) refl

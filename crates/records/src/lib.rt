@@ -1,7 +1,8 @@
 // Records: how much space they take, and their bytes in a lent buffer.
 mod body;
-mod content;
+mod form;
 mod measure;
+mod shape;
 mod writer;
 
 pub use body::Body;

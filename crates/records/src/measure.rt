@@ -1,38 +1,23 @@
 // The space that records take, which is known before anything is written.
 use super::body::Body;
-use channel::Notice;
+use super::shape;
+use super::shape::Shape;
 use channel::Send;
+use set_rules::Desk;
 ghost use mathlib.Core.Path.{_≡_};
-ghost use mathlib.Core.List.{[], _∷_};
+ghost use mathlib.Core.List.{List, [], _∷_};
 ghost use Prim.Native.Nat.{ℕ, _*_, _≤_};
 ghost use lib.Count.{onesIn};
-ghost use Rattle.line_rules.specs.Notices.{contentFor};
-ghost use Rattle.set_rules.specs.Records.{recordSize, delivered, spaceOf};
-ghost use Rattle.records.specs.Emitting.{bodyFor, delivery};
+ghost use Rattle.set_rules.specs.Records.{delivered, spaceOf};
+ghost use Rattle.records.specs.Emitting.{delivery, sizeIn};
 
-// How long the record of a notice is. A contact's is 8 bytes, and a telegram's 5 and the telegram.
-fn notice_size(notice: Notice) -> usize
-    ensures { λ r. ⌜ (r ≡ recordSize (contentFor 0 0 notice)) × (r ≤ 51) ⌝ }
+// How long a record is.
+fn size_in(shape: Shape) -> usize
+    ensures { λ r. ⌜ r ≡ sizeIn shape ⌝ }
 {
-    match notice {
-        Notice::PressAnswer { .. } => 8,
-        Notice::Incoming { .. } => 8,
-        Notice::BaseArrival { .. } => 37,
-        Notice::Call { .. } => 51,
-        Notice::CallerNotice { .. } => 38,
-        Notice::CaptureReply { .. } => 25,
-        Notice::CaptureState { .. } => 34,
-    }
-}
-
-// How long the record of a body is.
-pub fn record_size(body: Body) -> usize
-    ensures { λ r. ⌜ (r ≡ recordSize (bodyFor 0 body)) × (r ≤ 51) ⌝ }
-{
-    match body {
-        Body::About { notice, .. } => notice_size(notice),
-        Body::TimeRequest => 21,
-        Body::OperationRequest => 21,
+    match shape {
+        Shape::Contact { .. } => 8,
+        Shape::Telegram { size, .. } => size,
     }
 }
 
@@ -46,21 +31,21 @@ fn space_of(recipients: u8, size: usize) -> usize
 
 // The space of one body to the desks of a set.
 pub fn space_to(recipients: u8, body: Body) -> usize
-    ensures { λ r. ⌜ (r ≡ spaceOf (delivery recipients body ∷ [])) × (r ≤ 408) ⌝ }
+    ensures { λ r. ⌜ ((ds : List Desk) → r ≡ spaceOf (delivery ds recipients body ∷ [])) × (r ≤ 408) ⌝ }
 {
-    space_of(recipients, record_size(body))
+    space_of(recipients, size_in(shape::shape_of(body)))
 }
 
-// The space of what a channel sends. It is the same whichever channel it is.
+// The space of what a channel sends. It is the same whichever channel and desks these are.
 pub fn space(sends: [Send; 7]) -> usize
-    ensures { λ r. ⌜ ((ch : ℕ) → r ≡ spaceOf (delivered ch sends)) × (r ≤ 2856) ⌝ }
+    ensures { λ r. ⌜ ((ds : List Desk) (ch : ℕ) → r ≡ spaceOf (delivered ds ch sends)) × (r ≤ 2856) ⌝ }
 {
     let mut sum = 0;
     let mut k = 0;
     while k < 7 {
         let s = sends[k];
         let notice = s.notice;
-        sum += space_of(s.recipients, notice_size(notice));
+        sum += space_of(s.recipients, shape::notice_size(notice));
         k += 1;
     }
     sum

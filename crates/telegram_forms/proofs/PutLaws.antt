@@ -1,20 +1,25 @@
 -- Bytes put one behind the other: digits over the width, fields over the list of fields, and a telegram.
 -- Assumes nothing.
-use Prim.Native.Nat.{ℕ, zero, suc, _+_, _/_, _%_, _≤_}
+use Prim.Native.Nat.{ℕ, zero, suc, _+_, _/_, _%_, _≤_, _<_}
 use mathlib.Core.List.{List, [], _∷_, _++_}
-use mathlib.Core.Path.{_≡_, refl, _∙_}
+use mathlib.Core.Path.{_≡_, refl, ap, _∙_}
+use native.Mathlib.Nat.{zero-add}
 use native.Mathlib.Omega.{arith}
 use Rattle.laws.proofs.Lists.{sets-append}
-use lib.Dec.{lit≤}
 use lib.ListN.{length, take, drop, set, replicate}
-use lib.Seq.{sets, sets-eq, take-at}
+use lib.Seq.{sets, sets-eq, length-sets, set-set, set-comm, take-at}
 use Rattle.fields.specs.Digits.{digitsOf}
 use Rattle.fields.specs.Fields.{Field, plain, bytesOf}
 use Rattle.fields.specs.Promises.{shifted}
 use Rattle.fields.proofs.Kept.{length-digits, digits-none, digits-suc, digits-split}
 use Rattle.telegram.specs.Telegram.{rowOf, valuesOf, sizeOf, headed, telegramOf, over}
+use Rattle.telegram.specs.declared.message.Number.{Number}
+use Rattle.telegram.specs.declared.message.CallerNotice.{CallerNotice}
+use Rattle.telegram.specs.declared.message.CaptureState.{CaptureState}
 use Rattle.telegram.specs.declared.message.Message.{Message}
+use Rattle.telegram.specs.declared.message.Message.the-variants.{CallerNotice as Notice, CaptureState as State}
 use Rattle.telegram.proofs.Kept.{size-most, length-telegram}
+use Rattle.telegram_forms.specs.Forms.{padded}
 
 -- ---- digits
 
@@ -28,6 +33,17 @@ pub put-digits : (w : ℕ) (t : List ℕ) (at v : ℕ) → digitwise w t at v �
 put-digits zero t at v = rw digits-none
 put-digits (suc zero) t at v = rw (digits-suc, digits-none)
 put-digits (suc (suc w)) t at v = rw (put-digits (suc w) t at (v / 10), digits-suc (suc w) v, sets-append, length-digits)
+
+-- four digits, by hundreds
+pub put-hundreds : (t : List ℕ) (at v : ℕ)
+    → set (set (set (set t at (48 + v / 100 % 100 / 10)) (at + 1) (48 + v / 100 % 100 % 10)) (at + 2) (48 + v % 100 / 10)) (at + 3) (48 + v % 100 % 10)
+    ≡ sets t at (digitsOf 4 v)
+put-hundreds t at v =
+    let a : v / 100 % 100 / 10 ≡ v / 10 / 10 / 10 % 10 = omega arith in
+    let b : v / 100 % 100 % 10 ≡ v / 10 / 10 % 10 = omega arith in
+    let c : v % 100 / 10 ≡ v / 10 % 10 = omega arith in
+    let d : v % 100 % 10 ≡ v % 10 = omega arith in
+    rw (a, b, c, d) (put-digits 4 t at v)
 
 -- two shorter fields are a longer one
 pub put-both : (a b : ℕ) (t : List ℕ) (at v : ℕ)
@@ -65,29 +81,107 @@ pub put-header : (z : List ℕ) (n c i : ℕ)
 unfolding bytesOf
 put-header z n c i = put-both 3 3 _ 10 i ∙ headed-fields z n c i [] []
 
--- bytes at the front of an array, copied to the front of a buffer
-copied : (n : ℕ) (z bs b : List ℕ) → length bs ≡ n → n ≤ length z → take n (sets z 0 bs) ++ drop n b ≡ over bs b
-copied n z bs b e h =
-    let fits : 0 + length bs ≤ length z = omega arith in
-    rw (sets-eq bs z 0 fits, take-at bs _ n e, e)
-
 -- an array into which a message is put: its header, and then its fields
-abbrev pub form : List ℕ → ℕ → Message → List ℕ
-form z c m = fieldwise (sets z 0 (headed (sizeOf m) c (rowOf m .id) [])) 16 (rowOf m .body) (valuesOf m)
+pub put-form : (m : Message)
+    → fieldwise (padded (headed (sizeOf m) 0 (rowOf m .id) [])) 16 (rowOf m .body) (valuesOf m) ≡ padded (telegramOf 0 m)
+unfolding telegramOf bytesOf padded
+put-form m =
+    let start = headed-fields (replicate 46 0) (sizeOf m) 0 (rowOf m .id) in
+    rw (← start [] [], start) refl
 
-form-copied : (z : List ℕ) (c : ℕ) (m : Message) (b : List ℕ) → 46 ≤ length z
-    → take (sizeOf m) (form z c m) ++ drop (sizeOf m) b ≡ over (telegramOf c m) b
+-- ---- other numbers put into a telegram
+
+module _ {A : Type 0} where
+  -- a store before a run of stores
+  set-before : (l : List A) (i j : ℕ) (a : A) (xs : List A) → i < j → set (sets l j xs) i a ≡ sets (set l i a) j xs
+  set-before l i j a [] h = refl
+  set-before l i j a (x ∷ xs) h =
+      set-before (set l j x) i (suc j) a xs (omega arith) ∙ ap (λ (r : List A). sets r (suc j) xs) (set-comm l j i x a (λ e. omega (arith, e)))
+
+  -- the first stores of a run, stored again
+  sets-again : (l : List A) (i : ℕ) (xs ys zs : List A) → length xs ≡ length ys → sets (sets l i (xs ++ zs)) i ys ≡ sets l i (ys ++ zs)
+  sets-again l i [] [] zs e = refl
+  sets-again l i [] (y ∷ ys) zs e = absurd (omega (arith, e))
+  sets-again l i (x ∷ xs) [] zs e = absurd (omega (arith, e))
+  sets-again l i (x ∷ xs) (y ∷ ys) zs e =
+      ap (λ (r : List A). sets r (suc i) ys) (set-before (set l i x) i (suc i) y (xs ++ zs) (omega arith) ∙ ap (λ (r : List A). sets r (suc i) (xs ++ zs)) (set-set l i x y))
+      ∙ sets-again (set l i y) (suc i) xs ys zs (omega (arith, e))
+
+-- the place of the i-th field, where the first is at `at`, and its width
+abbrev pub placeOf : ℕ → ℕ → List Field → ℕ
+placeOf i at [] = at
+placeOf zero at (f ∷ fs) = at
+placeOf (suc i) at (f ∷ fs) = placeOf i (at + f .width) fs
+
+abbrev pub widthOf : ℕ → List Field → ℕ
+widthOf i [] = 0
+widthOf zero (f ∷ fs) = f .width
+widthOf (suc i) (f ∷ fs) = widthOf i fs
+
+-- another number in the i-th field
+pub put-field : (i : ℕ) (fs : List Field) (vs t : List ℕ) (at v : ℕ) → i < length vs
+    → sets (sets t at (bytesOf fs vs)) (placeOf i at fs) (digitsOf (widthOf i fs) v) ≡ sets t at (bytesOf fs (set vs i v))
+unfolding bytesOf
+put-field i [] vs t at v h = rw digits-none refl
+put-field i (f ∷ fs) [] t at v h = absurd (omega arith)
+put-field zero (f ∷ fs) (w ∷ ws) t at v h = sets-again t at (digitsOf (f .width) w) (digitsOf (f .width) v) (bytesOf fs ws) (simp length-digits refl)
+put-field (suc i) (f ∷ fs) (w ∷ ws) t at v h =
+    let first = digitsOf (f .width) w in
+    rw (sets-append t at first (bytesOf fs ws), sets-append t at first (bytesOf fs (set ws i v)), length-digits) (put-field i fs ws (sets t at (digitsOf (f .width) w)) (at + f .width) v (omega arith))
+
+-- a telegram's numbers, with those of its header before those of its body
+abbrev pub allFields : Message → List Field
+allFields m = plain 4 ∷ plain 4 ∷ plain 6 ∷ rowOf m .body
+
+abbrev pub allValues : ℕ → Message → List ℕ
+allValues c m = sizeOf m ∷ c ∷ rowOf m .id ∷ valuesOf m
+
+telegram-fields : (z : List ℕ) (c : ℕ) (m : Message) → sets z 0 (telegramOf c m) ≡ sets (set (set z 0 68) 1 86) 2 (bytesOf (allFields m) (allValues c m))
 unfolding telegramOf bytesOf
-form-copied z c m b h =
-    let fits : sizeOf m ≤ length z = omega (arith, size-most m) in
-    let start = headed-fields z (sizeOf m) c (rowOf m .id) in
-    rw (← start [] [], start) (copied (sizeOf m) z (telegramOf c m) b (length-telegram c m) fits)
+telegram-fields z c m = refl
 
--- an array of 46 bytes has room for any telegram
-pub put-telegram : (c : ℕ) (m : Message) (b : List ℕ)
-    → take (sizeOf m) (form (replicate 46 0) c m) ++ drop (sizeOf m) b ≡ over (telegramOf c m) b
-put-telegram c m b = form-copied (replicate 46 0) c m b (lit≤ tt)
+put-value : (i c c′ v : ℕ) (m m′ : Message) → i < length (allValues c m) → allFields m′ ≡ allFields m → allValues c′ m′ ≡ set (allValues c m) i v
+    → (z : List ℕ) → sets (sets z 0 (telegramOf c m)) (placeOf i 2 (allFields m)) (digitsOf (widthOf i (allFields m)) v) ≡ sets z 0 (telegramOf c′ m′)
+put-value i c c′ v m m′ h ef ev z =
+    rw (telegram-fields z c m, telegram-fields z c′ m′, ef, ev) (put-field i (allFields m) (allValues c m) (set (set z 0 68) 1 86) 2 v h)
 
--- what a copy gives and leaves, where what it leaves is known by another name
-pub left : {r n : ℕ} {x y w : List ℕ} → (r ≡ n) × (x ≡ y) → y ≡ w → (r ≡ n) × (x ≡ w)
-left p e = (p .0, p .1 ∙ e)
+-- an organisation code in the place of code 0
+put-code : (z : List ℕ) (c : ℕ) (m : Message) → sets (sets z 0 (telegramOf 0 m)) 6 (digitsOf 4 c) ≡ sets z 0 (telegramOf c m)
+put-code z c m = put-value 1 0 c c m m (omega arith) refl refl z
+
+-- another number in a caller notice, and in a capture state
+pub put-caller : (z : List ℕ) (c : ℕ) (m : CallerNotice) (n : Number)
+    → sets (sets z 0 (telegramOf c (Notice m))) 24 (digitsOf 8 (n .digits))
+    ≡ sets z 0 (telegramOf c (Notice (record { channel = m .channel; base = m .base; kind = m .kind; direction = m .direction; number = n; order = m .order })))
+put-caller z c m n = put-value 7 c c (n .digits) (Notice m) _ (omega arith) refl refl z
+
+pub put-holder : (z : List ℕ) (c : ℕ) (m : CaptureState) (n : Number)
+    → sets (sets z 0 (telegramOf c (State m))) 20 (digitsOf 8 (n .digits))
+    ≡ sets z 0 (telegramOf c (State (record { channel = m .channel; number = n; state = m .state })))
+put-holder z c m n = put-value 5 c c (n .digits) (State m) _ (omega arith) refl refl z
+
+-- ---- a telegram in a buffer
+
+pub length-padded : (bs : List ℕ) → length (padded bs) ≡ 46
+unfolding padded
+length-padded bs = length-sets (replicate 46 0) 0 bs
+
+-- bytes at the front of an array, copied to the front of a buffer
+copied : (n : ℕ) (z bs b : List ℕ) → length bs ≡ n → n ≤ length z → n ≤ length b → take n (sets z 0 bs) ++ drop n b ≡ sets b 0 bs
+copied n z bs b e h k =
+    let fits : 0 + length bs ≤ length z = omega arith in
+    let fits-too : 0 + length bs ≤ length b = omega arith in
+    rw (sets-eq bs z 0 fits, sets-eq bs b 0 fits-too, take-at bs _ n e, zero-add, e)
+
+-- a form, under an organisation code; an array of 46 bytes has room for any telegram
+pub form-put : (c : ℕ) (m : Message) (b : List ℕ) → sizeOf m ≤ length b
+    → sets (take (sizeOf m) (padded (telegramOf 0 m)) ++ drop (sizeOf m) b) 6 (digitsOf 4 c) ≡ sets b 0 (telegramOf c m)
+unfolding padded
+form-put c m b h = rw (copied (sizeOf m) (replicate 46 0) (telegramOf 0 m) b (length-telegram 0 m) (size-most m) h) (put-code b c m)
+
+-- the same, with the bytes of the buffer behind it
+pub form-over : (c : ℕ) (m : Message) (b : List ℕ) → sizeOf m ≤ length b
+    → sets (take (sizeOf m) (padded (telegramOf 0 m)) ++ drop (sizeOf m) b) 6 (digitsOf 4 c) ≡ over (telegramOf c m) b
+form-over c m b h =
+    let fits : 0 + length (telegramOf c m) ≤ length b = omega (arith, h, length-telegram c m) in
+    form-put c m b h ∙ rw (sets-eq (telegramOf c m) b 0 fits, zero-add) refl

@@ -1,11 +1,11 @@
 // Digits, put into a telegram's bytes.
 ghost use mathlib.Core.Path.{_≡_};
-ghost use mathlib.Core.List.{[], _++_};
+ghost use mathlib.Core.List.{[]};
 ghost use Prim.Native.Nat.{_+_, _%_, _≤_};
-ghost use lib.ListN.{length, take, drop, replicate};
 ghost use lib.Seq.{sets};
 ghost use Rattle.fields.specs.Digits.{digitsOf};
 ghost use Rattle.telegram.specs.Telegram.{headed};
+ghost use Rattle.telegram_forms.specs.Forms.{padded};
 
 // The last digit of v.
 fn digit(v: u32) -> u8
@@ -62,29 +62,15 @@ pub fn eight(t: [u8; 46], at: usize, v: u32) -> [u8; 46]
     four(high, at + 4, v)
 }
 
-// "DV", the length of the whole telegram, the organisation code and the identifier.
-pub fn header(size: u32, code: u32, identifier: u32) -> [u8; 46]
-    ensures { λ r. ⌜ r ≡ sets (replicate 46 0) 0 (headed size code identifier []) ⌝ }
+// "DV", the length of the whole telegram, organisation code 0 and the identifier.
+pub fn header(size: u32, identifier: u32) -> [u8; 46]
+    ensures { λ r. ⌜ r ≡ padded (headed size 0 identifier []) ⌝ }
 {
     let mut t = [0u8; 46];
     t[0] = b'D';
     t[1] = b'V';
     let t = four(t, 2, size);
-    let t = four(t, 6, code);
+    let t = four(t, 6, 0);
     let t = three(t, 10, identifier / 10 / 10 / 10);
     three(t, 13, identifier)
-}
-
-// Copies the first n bytes of a telegram to the front of a buffer, and gives n.
-pub fn copy(bytes: [u8; 46], n: usize, buffer: &mut [u8]) -> usize
-    requires { ⌜ (n ≤ 46) × (n ≤ length (now buffer)) ⌝ }
-    ensures { λ r. ⌜ r ≡ n ⌝ }
-    ensures { λ r. ⌜ now (buffer .exit) ≡ take n bytes ++ drop n (now (buffer .entry)) ⌝ }
-{
-    let mut i = 0;
-    while i < n {
-        buffer[i] = bytes[i];
-        i += 1;
-    }
-    n
 }

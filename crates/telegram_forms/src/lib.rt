@@ -1,14 +1,18 @@
-// The written form of each telegram: digits, and a function for each telegram that puts it into a buffer.
+// The written form of each telegram: digits, a function for each telegram that gives its bytes, and one that puts them into a
+// buffer under an organisation code.
+mod copying;
 mod digits;
 mod messages;
 
-pub use messages::put_base_arrival;
-pub use messages::put_call;
-pub use messages::put_caller_notice;
-pub use messages::put_capture_reply;
-pub use messages::put_capture_request;
-pub use messages::put_capture_state;
-pub use messages::put_operation_answer;
-pub use messages::put_operation_request;
-pub use messages::put_time_notice;
-pub use messages::put_time_request;
+pub use copying::put_form;
+pub use copying::put_number;
+pub use messages::base_arrival_form;
+pub use messages::call_form;
+pub use messages::caller_notice_form;
+pub use messages::capture_reply_form;
+pub use messages::capture_request_form;
+pub use messages::capture_state_form;
+pub use messages::operation_answer_form;
+pub use messages::operation_request_form;
+pub use messages::time_notice_form;
+pub use messages::time_request_form;

@@ -15,6 +15,7 @@ ghost use mathlib.Core.Path.{_≡_};
 ghost use Prim.Native.Nat.{_≤_};
 ghost use lib.ListN.{length};
 ghost use Rattle.telegram.specs.Telegram.{inRange, over, sizeOf, telegramOf, writeAnswer, writeInto};
+ghost use Rattle.telegram_forms.specs.Forms.{padded};
 
 // How many bytes a message is as a telegram.
 pub fn size(message: Message) -> usize
@@ -34,6 +35,24 @@ pub fn size(message: Message) -> usize
     }
 }
 
+// A message as a telegram under code 0, and zeros behind it.
+fn form(message: Message) -> [u8; 46]
+    ensures { λ r. ⌜ r ≡ padded (telegramOf 0 message) ⌝ }
+{
+    match message {
+        Message::TimeNotice(m) => telegram_forms::time_notice_form(m),
+        Message::OperationAnswer(m) => telegram_forms::operation_answer_form(m),
+        Message::TimeRequest => telegram_forms::time_request_form(),
+        Message::BaseArrival(m) => telegram_forms::base_arrival_form(m),
+        Message::OperationRequest => telegram_forms::operation_request_form(),
+        Message::Call(m) => telegram_forms::call_form(m),
+        Message::CallerNotice(m) => telegram_forms::caller_notice_form(m),
+        Message::CaptureRequest(m) => telegram_forms::capture_request_form(m),
+        Message::CaptureReply(m) => telegram_forms::capture_reply_form(m),
+        Message::CaptureState(m) => telegram_forms::capture_state_form(m),
+    }
+}
+
 // Writes a message to the front of a buffer that has room for it, and says how many bytes it is.
 // A number that is too large for its field loses its highest digits: whoever calls this knows the numbers.
 pub fn put(message: Message, code: u32, buffer: &mut [u8]) -> usize
@@ -41,18 +60,10 @@ pub fn put(message: Message, code: u32, buffer: &mut [u8]) -> usize
     ensures { λ r. ⌜ r ≡ sizeOf message ⌝ }
     ensures { λ r. ⌜ now (buffer .exit) ≡ over (telegramOf code message) (now (buffer .entry)) ⌝ }
 {
-    match message {
-        Message::TimeNotice(m) => telegram_forms::put_time_notice(m, code, buffer),
-        Message::OperationAnswer(m) => telegram_forms::put_operation_answer(m, code, buffer),
-        Message::TimeRequest => telegram_forms::put_time_request(code, buffer),
-        Message::BaseArrival(m) => telegram_forms::put_base_arrival(m, code, buffer),
-        Message::OperationRequest => telegram_forms::put_operation_request(code, buffer),
-        Message::Call(m) => telegram_forms::put_call(m, code, buffer),
-        Message::CallerNotice(m) => telegram_forms::put_caller_notice(m, code, buffer),
-        Message::CaptureRequest(m) => telegram_forms::put_capture_request(m, code, buffer),
-        Message::CaptureReply(m) => telegram_forms::put_capture_reply(m, code, buffer),
-        Message::CaptureState(m) => telegram_forms::put_capture_state(m, code, buffer),
-    }
+    let n = size(message);
+    let bytes = form(message);
+    telegram_forms::put_form(&bytes, n, code, buffer);
+    n
 }
 
 fn time_notice_in_range(m: TimeNotice) -> bool

@@ -2,24 +2,26 @@
 -- whole, whichever channel it is.
 -- Assumes nothing.
 use Prim.Native.Nat.{ℕ, _+_, _*_, _-_, _≤_, _<_}
+use mathlib.Core.List.{List}
 use mathlib.Core.Path.{_≡_}
 use native.Mathlib.Nat.{zero-add}
 use native.Mathlib.Omega.{arith}
 use lib.ListN.{length, drop}
 use Rattle.set_rules.specs.Records.{delivered, spaceOf}
+use Rattle.set_rules.specs.declared.state.Desk.{Desk}
 use Rattle.records.proofs.SendLaws.{space-next, space-end}
 use borrow.Author.Needs.{needs}
 use Rattle.records.proofs.measure.space.Statement.{statement}
 use Rattle.records.proofs.measure.space.Tie as tie
 
 abbrev Inv-loop : tie.InvT-loop
-Inv-loop sends sum₀ k₀ sum k = ((ch : ℕ) → sum + spaceOf (delivered ch (drop k sends)) ≡ spaceOf (delivered ch sends)) × (sum ≤ k * 408) × (k ≤ 7)
+Inv-loop sends sum₀ k₀ sum k = ((ds : List Desk) (ch : ℕ) → sum + spaceOf (delivered ds ch (drop k sends)) ≡ spaceOf (delivered ds ch sends)) × (sum ≤ k * 408) × (k ≤ 7)
 
 abbrev μ-loop : tie.MeasureT-loop
 μ-loop sends sum₀ k₀ sum k = 7 - k
 
 loop-holds : tie.Need-loop-holds Inv-loop μ-loop
-loop-holds c = (λ ch. zero-add _, omega arith, omega arith)
+loop-holds c = (λ ds ch. zero-add _, omega arith, omega arith)
 
 space-of-requires : tie.Need-space-of-requires Inv-loop μ-loop
 space-of-requires c κs = c .notice-size .ensures .1
@@ -33,7 +35,7 @@ loop-again c =
     let ss = c .before .before .before .before .before .args .t1 in
     let n : length ss ≡ 7 = search needs in
     let h : l .k < length ss = omega (arith, n) in
-    (λ ch. space-next ch ss (l .k) _ (l .sum) h (l .inv .0 ch) (c .before .notice-size .ensures .0) (c .space-of .ensures .0), omega (arith, c .space-of .ensures .1), omega arith)
+    (λ ds ch. space-next ds ch ss (l .k) _ (l .sum) h (l .inv .0 ds ch) (c .before .notice-size .ensures .0) (c .space-of .ensures .0), omega (arith, c .space-of .ensures .1), omega arith)
 
 returns : tie.Need-returns Inv-loop μ-loop
 returns c =
@@ -41,7 +43,7 @@ returns c =
     let ss = c .before .before .args .t1 in
     let n : length ss ≡ 7 = search needs in
     let h : length ss ≤ l .k = omega (arith, n) in
-    (λ ch. omega (arith, l .inv .0 ch, space-end ch ss (l .k) h), omega arith)
+    (λ ds ch. omega (arith, l .inv .0 ds ch, space-end ds ch ss (l .k) h), omega arith)
 
 pub space-spec : {M : Type 1} → statement M
 space-spec =

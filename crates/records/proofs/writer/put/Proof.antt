@@ -12,7 +12,7 @@ use Rattle.records.proofs.writer.put.Statement.{statement}
 use Rattle.records.proofs.writer.put.Tie as tie
 
 abbrev Inv-loop : tie.InvT-loop
-Inv-loop buffer₀ at desks channel sends p₀ k₀ buffer p k = Writing buffer₀ at (recordsOf desks (delivered channel sends)) buffer p (recordsOf desks (delivered channel (drop k sends))) × (k ≤ 7)
+Inv-loop buffer₀ at desks channel sends p₀ k₀ buffer p k = Writing buffer₀ at (recordsOf desks (delivered desks channel sends)) buffer p (recordsOf desks (delivered desks channel (drop k sends))) × (k ≤ 7)
 
 abbrev μ-loop : tie.MeasureT-loop
 μ-loop buffer₀ at desks channel sends p₀ k₀ buffer p k = 7 - k

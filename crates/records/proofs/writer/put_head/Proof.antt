@@ -1,5 +1,7 @@
 -- `records::writer::put_head` meets its contract: five stores.
 -- Assumes nothing.
+use Prim.Native.Nat.{_-_, _/_, _%_}
+use mathlib.Core.Path.{_≡_, refl}
 use native.Mathlib.Omega.{arith}
 use lib.ListN.{length-set}
 use Rattle.records.specs.Emitting.{written}
@@ -18,7 +20,11 @@ slice-write-buffer-4 c = simp length-set (omega arith)
 
 returns : tie.Need-returns
 unfolding written
-returns c = search needs
+returns c =
+    let size = c .args .size in
+    let high : (size - 2) / 256 ≡ 0 = omega arith in
+    let low : (size - 2) % 256 ≡ size - 2 = omega arith in
+    rw (high, low) refl
 
 pub put-head-spec : {M : Type 1} → statement M
 put-head-spec =
