@@ -14,9 +14,9 @@ use Rattle.channel.specs.declared.state.Event.{Event}
 use Rattle.line_rules.specs.Rules.{Step}
 use Rattle.records.specs.Emitting.{written}
 use Rattle.records.proofs.Writing.{written-over}
-use Rattle.set_rules.specs.State.{noChannel, withDesks, withChannels}
+use Rattle.set_rules.specs.State.{noChannel, withChannels}
 use Rattle.set_rules.specs.Records.{delivered, recordsOf, spaceOf}
-use Rattle.set_rules.specs.SetRules.{Effect, effect, movedBy, onChannel}
+use Rattle.set_rules.specs.SetRules.{Effect, effect, movedIn, onChannel}
 use Rattle.set_rules.specs.Feeds.{Gives, Outcome, answerOf, refuse, emit}
 use Rattle.set_rules.specs.declared.state.LineSet.{LineSet}
 use Rattle.set_rules.specs.declared.state.Answer.{Answer}
@@ -31,18 +31,18 @@ done t n = record { set = t; count = n; refusal = 0 }
 pub gives-as : {o o′ : Outcome} {r : Answer} {b a : List ℕ} → o ≡ o′ → Gives o r b a → Gives o′ r b a
 gives-as {o} {o′} {r} {b} {a} e h = subst (λ (x : Outcome). Gives x r b a) e h
 
-module _ (s : LineSet) (place : ℕ) (c : Channel) (at : getD (s .channels) place noChannel ≡ c) where
-  -- the channel stored where it stands
-  pub stored-back : withChannels (set (s .channels) place c) s ≡ s
-  stored-back = ap (λ (x : Channel). withChannels (set (s .channels) place x) s) (sym at) ∙ ap (λ (cs : List Channel). withChannels cs s) (set-getD (s .channels) place noChannel)
+-- what there is no room for is refused, and a refusal leaves all
+pub no-room : (s : LineSet) (b : List ℕ) (f : Effect) {r : Answer} → length b < spaceOf (f .sent) → Gives (refuse 16 s) r b b → Gives (emit s f (length b)) r b b
+no-room s b f h g = rw (lt-leb (spaceOf (f .sent)) (length b) h) g
 
-  module _ (b : List ℕ) where
-    pub refused : (n : ℕ) {r : Change} → r ≡ unchanged (s .desks) c n → Gives (refuse n s) (stored s place r) b b
-    refused n e =
-        record { answer = ap (λ (k : Change). stored s place k) e ∙ ap (λ (t : LineSet). answerOf (refuse n (withDesks (s .desks) t))) stored-back; bytes = refl }
+-- the channel stored where it stands
+stored-back : (s : LineSet) (place : ℕ) (c : Channel) → getD (s .channels) place noChannel ≡ c → withChannels (set (s .channels) place c) s ≡ s
+stored-back s place c at =
+    ap (λ (x : Channel). withChannels (set (s .channels) place x) s) (sym at) ∙ ap (λ (cs : List Channel). withChannels cs s) (set-getD (s .channels) place noChannel)
 
-    pub no-room : (f : Effect) {r : Change} → length b < spaceOf (f .sent) → r ≡ unchanged (s .desks) c 16 → Gives (emit s f (length b)) (stored s place r) b b
-    no-room f h e = rw (lt-leb (spaceOf (f .sent)) (length b) h) (refused 16 e)
+pub refused : (s : LineSet) (place : ℕ) (c : Channel) → getD (s .channels) place noChannel ≡ c → (b : List ℕ) (n : ℕ) {r : Change} → r ≡ unchanged c n → Gives (refuse n s) (stored s place r) b b
+refused s place c at b n e =
+    record { answer = ap (λ (k : Change). stored s place k) e ∙ ap (λ (t : LineSet). answerOf (refuse n t)) (stored-back s place c at); bytes = refl }
 
 -- records that fit
 pub emitted : (s : LineSet) (f : Effect) (b : List ℕ) {r : Answer} {a : List ℕ} → spaceOf (f .sent) ≤ length b → AllEven (f .sent)
@@ -53,12 +53,12 @@ emitted s f b h e w k =
 
 -- ---- an event on the channel at a place
 
-abbrev pub movedAt : LineSet → ℕ → ℕ → Event → Channel → Effect
-movedAt s place d v c =
-    let m : Step = movedBy (s .desks) (s .size .desks) d v c in
-    effect s (withChannels (set (s .channels) place (m .next)) s) (delivered (c .code) (m .sends))
+abbrev pub movedAt : LineSet → ℕ → Event → Channel → Effect
+movedAt s place v c =
+    let m : Step = movedIn (s .desks) (s .size .desks) v c in
+    effect s (withChannels (set (s .channels) place (m .next)) s) (delivered (s .desks) (c .code) (m .sends))
 
 -- it is the event on the channel with a code, if that one stands there
-pub moved-at : (s : LineSet) (ch place d : ℕ) (v : Event) (c : Channel) → Stands s ch place true c → movedAt s place d v c ≡ onChannel s ch d v
+pub moved-at : (s : LineSet) (ch place : ℕ) (v : Event) (c : Channel) → Stands s ch place true c → movedAt s place v c ≡ onChannel s ch v
 unfolding onChannel
-moved-at s ch place d v c w = ap₂ (λ (i : ℕ) (x : Channel). movedAt s i d v x) (w .place-is refl) (w .channel-is refl)
+moved-at s ch place v c w = ap₂ (λ (i : ℕ) (x : Channel). movedAt s i v x) (w .place-is refl) (w .channel-is refl)

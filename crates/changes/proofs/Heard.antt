@@ -15,34 +15,34 @@ use Rattle.set_rules.specs.declared.state.Desk.{Desk}
 use Rattle.records.specs.Emitting.{deliveryOf}
 use Rattle.records.proofs.SendLaws.{nobody}
 
-pub heard-records : (ds : List Desk) (ch : ℕ) (ss : List Send) → recordsOf ds (delivered ch (heard ss)) ≡ recordsOf ds (delivered ch ss)
+pub heard-records : (ds : List Desk) (ch : ℕ) (ss : List Send) → recordsOf ds (delivered ds ch (heard ss)) ≡ recordsOf ds (delivered ds ch ss)
 unfolding heard delivered recordsOf
 heard-records ds ch [] = refl
 heard-records ds ch (s ∷ ss) = go (eqb (s .recipients) 0) refl (heard-records ds ch ss)
   where
-    go : (t : Bool) → eqb (s .recipients) 0 ≡ t → recordsOf ds (delivered ch (heard ss)) ≡ recordsOf ds (delivered ch ss)
-        → recordsOf ds (delivered ch (heard (s ∷ ss))) ≡ recordsOf ds (delivered ch (s ∷ ss))
-    go true e r = rw (e, nobody ds (deliveryOf ch s) (eqb-true _ 0 e)) r
+    go : (t : Bool) → eqb (s .recipients) 0 ≡ t → recordsOf ds (delivered ds ch (heard ss)) ≡ recordsOf ds (delivered ds ch ss)
+        → recordsOf ds (delivered ds ch (heard (s ∷ ss))) ≡ recordsOf ds (delivered ds ch (s ∷ ss))
+    go true e r = rw (e, nobody ds (deliveryOf ds ch s) (eqb-true _ 0 e)) r
     go false e r = rw (e, r)
 
 no-ones : onesIn 8 0 ≡ 0
 unfolding onesIn
 no-ones = refl
 
-pub heard-space : (ch : ℕ) (ss : List Send) → spaceOf (delivered ch (heard ss)) ≡ spaceOf (delivered ch ss)
+pub heard-space : (ds : List Desk) (ch : ℕ) (ss : List Send) → spaceOf (delivered ds ch (heard ss)) ≡ spaceOf (delivered ds ch ss)
 unfolding heard delivered spaceOf
-heard-space ch [] = refl
-heard-space ch (s ∷ ss) = go (eqb (s .recipients) 0) refl (heard-space ch ss)
+heard-space ds ch [] = refl
+heard-space ds ch (s ∷ ss) = go (eqb (s .recipients) 0) refl (heard-space ds ch ss)
   where
-    go : (t : Bool) → eqb (s .recipients) 0 ≡ t → spaceOf (delivered ch (heard ss)) ≡ spaceOf (delivered ch ss)
-        → spaceOf (delivered ch (heard (s ∷ ss))) ≡ spaceOf (delivered ch (s ∷ ss))
+    go : (t : Bool) → eqb (s .recipients) 0 ≡ t → spaceOf (delivered ds ch (heard ss)) ≡ spaceOf (delivered ds ch ss)
+        → spaceOf (delivered ds ch (heard (s ∷ ss))) ≡ spaceOf (delivered ds ch (s ∷ ss))
     go true e r = rw (e, eqb-true (s .recipients) 0 e, no-ones, zero-mul, zero-add) r
     go false e r = rw (e, r)
 
 -- ---- sends that are heard alike
 
-pub same-space : (ch : ℕ) (ss ts : List Send) → heard ss ≡ heard ts → spaceOf (delivered ch ss) ≡ spaceOf (delivered ch ts)
-same-space ch ss ts h = sym (heard-space ch ss) ∙ (ap (λ (l : List Send). spaceOf (delivered ch l)) h ∙ heard-space ch ts)
+pub same-space : (ds : List Desk) (ch : ℕ) (ss ts : List Send) → heard ss ≡ heard ts → spaceOf (delivered ds ch ss) ≡ spaceOf (delivered ds ch ts)
+same-space ds ch ss ts h = sym (heard-space ds ch ss) ∙ (ap (λ (l : List Send). spaceOf (delivered ds ch l)) h ∙ heard-space ds ch ts)
 
-pub same-records : (ds : List Desk) (ch : ℕ) (ss ts : List Send) → heard ss ≡ heard ts → recordsOf ds (delivered ch ss) ≡ recordsOf ds (delivered ch ts)
-same-records ds ch ss ts h = sym (heard-records ds ch ss) ∙ (ap (λ (l : List Send). recordsOf ds (delivered ch l)) h ∙ heard-records ds ch ts)
+pub same-records : (ds : List Desk) (ch : ℕ) (ss ts : List Send) → heard ss ≡ heard ts → recordsOf ds (delivered ds ch ss) ≡ recordsOf ds (delivered ds ch ts)
+same-records ds ch ss ts h = sym (heard-records ds ch ss) ∙ (ap (λ (l : List Send). recordsOf ds (delivered ds ch l)) h ∙ heard-records ds ch ts)

@@ -1,14 +1,14 @@
--- Laws on desks by their place, and on an entry's telegram.
+-- Laws on desks by their place.
 -- Assumes nothing.
 use Prim.Native.Nat.{ℕ, zero, suc, _+_, _<_, _/_, _%_}
 use mathlib.Core.List.{List, [], _∷_}
-use mathlib.Core.Bool.{Bool, true, false, _&&_, cond, and-comm}
-use mathlib.Core.Path.{_≡_, refl, sym, _∙_}
+use mathlib.Core.Bool.{Bool, true, _&&_, cond, and-comm}
+use mathlib.Core.Path.{_≡_, refl, sym}
 use native.Mathlib.Omega.{arith}
 use lib.Dec.{eqb, ltb}
-use lib.ListN.{length, take, drop, getD, drop-of-length-le}
+use lib.ListN.{length, take, getD}
 use lib.Seq.{take-nil}
-use borrow.Author.Tests.{lt-ltb, ltb-true}
+use borrow.Author.Tests.{lt-ltb}
 use Rattle.laws.proofs.Lists.{tab, tab-all}
 use Rattle.channel.specs.State.{isIn}
 use Rattle.set_rules.specs.State.{isRunning, runningFrom}
@@ -37,11 +37,3 @@ shares a b c d (suc (suc (suc zero))) m = rw (and-comm (isRunning a), and-comm (
 shares a b c d (suc (suc (suc (suc n)))) m =
     let k : (i : ℕ) → i < 4 → ltb i (suc (suc (suc (suc n)))) ≡ true = λ i h. lt-ltb i _ (omega arith) in
     rw (k 0 (omega arith), k 1 (omega arith), k 2 (omega arith), k 3 (omega arith), and-comm (isRunning a), and-comm (isRunning b), and-comm (isRunning c), and-comm (isRunning d), take-nil n) (omega arith)
-
--- from the fifth byte on, or from the end of fewer
-pub past-five : (e : List ℕ) → drop (cond (ltb (length e) 5) (length e) 5) e ≡ drop 5 e
-past-five e = go (ltb (length e) 5) refl
-  where
-    go : (t : Bool) → ltb (length e) 5 ≡ t → drop (cond (ltb (length e) 5) (length e) 5) e ≡ drop 5 e
-    go true k = rw k (drop-of-length-le e {i = length e} (omega arith) ∙ sym (drop-of-length-le e {i = 5} (omega (arith, ltb-true (length e) 5 k))))
-    go false k = rw k refl

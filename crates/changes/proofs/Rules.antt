@@ -1,37 +1,39 @@
--- The rules' answer to an entry about one channel or one desk, by what it asks and what is judged of it.
+-- The rules' answer to an entry about one desk's link or one channel, by what it asks and what is judged of it.
 -- Assumes nothing.
 use Prim.Native.Nat.{ℕ, zero, suc, _≤_}
 use mathlib.Core.List.{List, [], _∷_, _++_}
-use mathlib.Core.Bool.{Bool, true, false, _&&_, _||_, not, cond}
+use mathlib.Core.Bool.{Bool, true, false, _||_, cond}
 use mathlib.Core.Logic.{_⊎_, inl, inr}
 use mathlib.Core.Path.{_≡_, refl, sym, ap, ap₂, subst, _∙_}
 use native.Mathlib.Omega.{arith}
-use lib.Dec.{eqb, ltb, leb}
-use lib.ListN.{getD}
-use borrow.Author.Tests.{eqb-true, eqb-false, ne-eqb, lt-ltb, leb-false}
+use lib.Dec.{eqb, ltb}
+use borrow.Author.Tests.{eqb-true, eqb-false, ne-eqb}
+use Rattle.laws.specs.Each.{Each}
+use Rattle.laws.specs.Table.{pick}
 use Rattle.laws.proofs.Each.{_▹_}
-use Rattle.telegram.specs.Telegram.{readTelegram, rowOf}
+use Rattle.telegram.specs.Telegram.{num, readTelegram}
 use Rattle.telegram.specs.declared.message.Number.{Number}
 use Rattle.telegram.specs.declared.message.Reading.{Reading}
-use Rattle.telegram.specs.declared.message.Reading.the-variants.{Telegram, Refused}
 use Rattle.channel.specs.declared.state.Channel.{Channel}
-use Rattle.laws.specs.Table.{pick}
-use Rattle.set_rules.specs.State.{noDesk, hasChannel, channelAt}
+use Rattle.channel.specs.declared.state.Event.{Event}
+use Rattle.set_rules.specs.State.{ownOf, hasChannel, channelAt}
 use Rattle.set_rules.specs.Entries.{telegramIn}
-use Rattle.set_rules.specs.Refusals.{Lookup, lookup, Test, isKind, deskSends, codeIs, identifierIs, bodyReads, askedBy, askedIn, namedBy, firstOf, refusalOf}
-use Rattle.set_rules.specs.SetRules.{Effect, accepted, byHolder, onRequest}
+use Rattle.set_rules.specs.Refusals.{Lookup, lookup, Test, isKind, askedIn, deskOf, namedBy, firstOf, refusalOf}
+use Rattle.set_rules.specs.SetRules.{Effect, accepted, onChannel, onLink}
 use Rattle.set_rules.specs.Feeds.{refuse, emit, outcomeOf}
-use Rattle.laws.specs.Each.{Each}
 use Rattle.set_rules.specs.declared.state.Desk.{Desk}
 use Rattle.set_rules.specs.declared.state.Entry.{Entry}
 use Rattle.set_rules.specs.declared.state.LineSet.{LineSet}
+use Rattle.set_rules.specs.declared.state.LinkRequest.{LinkRequest}
 use Rattle.set_rules.specs.declared.state.Request.{Request}
-use Rattle.set_rules.specs.declared.state.Request.the-variants.{TellsTime, TellsState, AsksChannel, Foreign}
-use Rattle.changes.specs.Asking.{seen, early, late, telegramAsked, unless, askedOf}
-use Rattle.changes.specs.Judging.{lineRefusal, requestRefusal}
-use Rattle.changes.specs.Changes.{setWith, Stands, Asks, eventOf}
-use Rattle.changes.specs.declared.request.Asked.{Asked}
-use Rattle.changes.specs.declared.request.Asked.the-variants.{Refusal, ByTelegram, OnLine}
+use Rattle.set_rules.specs.declared.state.Request.the-variants.{OfLink as LinkIs, OnChannel as ChannelIs, Foreign}
+use Rattle.requests.specs.Asking.{seen, early, late, asking, eventOf, askedOf}
+use Rattle.requests.specs.Judging.{refusalBy}
+use Rattle.requests.specs.declared.request.Asked.{Asked}
+use Rattle.requests.specs.declared.request.Asked.the-variants.{Refusal, OfLink, OnChannel}
+use Rattle.requests.proofs.Asked.{foreign-refused}
+use Rattle.requests.proofs.Rows.{OfLine, late-ask, late-line}
+use Rattle.changes.specs.Changes.{setWith, Stands, Asks}
 
 -- ---- the table in two parts
 
@@ -51,28 +53,7 @@ first-append (row ∷ xs) ys v e r x p = go ((row .1) v e r x) (first-append xs 
     go false h = h
 
 numbered : Each Refuses early
-numbered = (λ p. omega arith) ▹ (λ p. omega arith) ▹ (λ p. omega arith) ▹ (λ p. omega arith) ▹ (λ p. omega arith) ▹ (λ p. omega arith) ▹ (λ p. omega arith) ▹ tt
-
--- a desk that is there, or none that is asked for
-pub desk-there : (t : Bool) (n d : ℕ) → (t && leb n d) ≡ false → (t && not (ltb d n)) ≡ false
-desk-there true n d h = rw (lt-ltb d n (leb-false n d h)) refl
-desk-there false n d h = refl
-
--- the rows 8 to 10, as the code asks them
-pub telegram-form : (k : ℕ) (r : Reading)
-    → telegramAsked k r ≡ unless (cond (not (codeIs k r)) 8 (cond (not (identifierIs r)) 9 (cond (not (bodyReads r)) 10 0))) (ByTelegram (askedIn r))
-telegram-form k (Telegram c m) = go (eqb c k) (deskSends (rowOf m .id))
-  where
-    go : (t u : Bool) → cond t (cond u (ByTelegram (askedBy m)) (Refusal 9)) (Refusal 8) ≡ unless (cond (not t) 8 (cond (not u) 9 0)) (ByTelegram (askedBy m))
-    go true true = refl
-    go true false = refl
-    go false u = refl
-telegram-form k (Refused n c i) = go (not (eqb n 8) && eqb c k) (not (eqb n 9) && deskSends i)
-  where
-    go : (t u : Bool) → Refusal (cond t (cond u 10 9) 8) ≡ unless (cond (not t) 8 (cond (not u) 9 10)) (ByTelegram Foreign)
-    go true true = refl
-    go true false = refl
-    go false u = refl
+numbered = (λ p. omega arith) ▹ (λ p. omega arith) ▹ (λ p. omega arith) ▹ (λ p. omega arith) ▹ (λ p. omega arith) ▹ (λ p. omega arith) ▹ (λ p. omega arith) ▹ (λ p. omega arith) ▹ tt
 
 -- ---- outcomes
 
@@ -85,26 +66,35 @@ module _ (s : LineSet) (e : List ℕ) (x : Entry) (room : ℕ) where
   unfolding outcomeOf
   outcome-accepted f h k = sym (rw (h, k) refl)
 
-module _ (planned : Bool) (ds : List Desk) (n : ℕ) (cs : List Channel) (k : ℕ) (e : List ℕ) (x : Entry) (place : ℕ) (found : Bool) (c : Channel) where
+module _ (planned : Bool) (ds : List Desk) (n : ℕ) (cs : List Channel) (k : ℕ) (e : List ℕ) (x : Entry) (found : Bool) (c : Channel) where
   abbrev s : LineSet
   s = setWith planned ds n cs k
 
   abbrev r : Reading
   r = readTelegram (telegramIn e)
 
+  abbrev request : Request
+  request = askedIn (x .desk) r
+
   -- what the rows go by, as the code has it and as the set has it
   abbrev v : Lookup
   v = seen planned ds n found c
 
   abbrev w : Lookup
-  w = lookup s (namedBy (askedIn r) x)
+  w = lookup s (namedBy request x)
 
   -- ---- what was asked
 
+  -- whoever asks for an event on a channel: a telegram, or what stands in the entry
+  abbrev Tells : ℕ → Number → Event → Type 0
+  Tells ch m u =
+      ((x .kind ≡ 1) × (request ≡ ChannelIs ch m u))
+      ⊎ ((x .kind ≡ 1 → ⊥) × (OnChannel (x .channel) (num 0) (eventOf x (ownOf ds (x .desk))) ≡ OnChannel ch m u))
+
   abbrev Said : Asked → Type 0
   Said (Refusal m) = (refusalOf s e x ≡ m) × (m ≡ 0 → ⊥)
-  Said (ByTelegram q) = (refusalOf s e x ≡ firstOf late w e r x) × (x .kind ≡ 1) × (askedIn r ≡ q)
-  Said OnLine = refusalOf s e x ≡ firstOf late w e r x
+  Said (OfLink q) = (refusalOf s e x ≡ 0) × (x .kind ≡ 1) × (request ≡ LinkIs q)
+  Said (OnChannel ch m u) = (refusalOf s e x ≡ firstOf late w e r x) × Tells ch m u
 
   -- the early rows look at no channel
   early-same : firstOf early w e r x ≡ firstOf early v e r x
@@ -115,116 +105,118 @@ module _ (planned : Bool) (ds : List Desk) (n : ℕ) (cs : List Channel) (k : �
   unfolding refusalOf
   split h = rw h (first-append early late w e r x numbered ∙ rw early-same refl)
 
+  -- a telegram about the link has no refusal behind the early rows
+  link-late : (q : LinkRequest) → x .kind ≡ 1 → request ≡ LinkIs q → firstOf late w e r x ≡ 0
+  unfolding firstOf
+  link-late q h i = rw (h, i) refl
+
+  not-foreign : x .kind ≡ 1 → firstOf early v e r x ≡ 0 → request ≡ Foreign → ⊥
+  unfolding firstOf
+  not-foreign h z f = go planned refl (ltb (x .desk) n) refl
+    where
+      go : (p : Bool) → planned ≡ p → (t : Bool) → ltb (x .desk) n ≡ t → ⊥
+      go true i true j = foreign-refused (x .desk) (deskOf v x .code) (deskOf v x .link .phase) r f (rw (h, i, j) at z)
+      go true i false j = let g : _≡_ {A = ℕ} 7 0 = rw (h, i, j) at z in omega arith
+      go false i t j = let g : _≡_ {A = ℕ} 4 0 = rw (h, i) at z in omega arith
+
   said : Said (askedOf v e x)
   unfolding askedOf refusalOf
   said = go (eqb (x .refusal) 0) refl (eqb (firstOf early v e r x) 0) refl (isKind 1 x) refl
     where
+      by-request : refusalOf s e x ≡ firstOf late w e r x → firstOf early v e r x ≡ 0 → x .kind ≡ 1 → (q : Request) → request ≡ q → Said (asking q)
+      by-request t z h (LinkIs q) i = (t ∙ link-late q h i, h, i)
+      by-request t z h (ChannelIs ch m u) i = (t, inl (h, i))
+      by-request t z h Foreign i = absurd (not-foreign h z i)
+
       go : (a : Bool) → eqb (x .refusal) 0 ≡ a → (b : Bool) → eqb (firstOf early v e r x) 0 ≡ b → (i : Bool) → isKind 1 x ≡ i
-          → Said (cond a (cond b (cond i (ByTelegram (askedIn r)) OnLine) (Refusal (firstOf early v e r x))) (Refusal (x .refusal)))
+          → Said (cond a (cond b (cond i (asking request) (OnChannel (x .channel) (num 0) (eventOf x (ownOf ds (x .desk))))) (Refusal (firstOf early v e r x))) (Refusal (x .refusal)))
       go false h b g i j = (rw h refl, eqb-false (x .refusal) 0 h)
       go true h false g i j = (split h ∙ rw g refl, eqb-false (firstOf early v e r x) 0 g)
-      go true h true g true j = (split h ∙ rw g refl, eqb-true (x .kind) 1 j, refl)
-      go true h true g false j = split h ∙ rw g refl
+      go true h true g true j = by-request (split h ∙ rw g refl) (eqb-true _ 0 g) (eqb-true (x .kind) 1 j) request refl
+      go true h true g false j = (split h ∙ rw g refl, inr (eqb-false (x .kind) 1 j, refl))
 
-  abbrev Asking : Asked → Type 0
-  Asking q = Asks s e x q place found c
+  said-of : (q : Asked) → q ≡ askedOf v e x → Said q
+  said-of q a = subst Said (sym a) said
 
-  said-of : (q : Asked) → Asking q → Said q
-  said-of q a = subst Said (sym (a .asked)) said
+  -- ---- a refusal up to 11
 
-  pub refused-as : (m : ℕ) → Asking (Refusal m) → (refusalOf s e x ≡ m) × (m ≡ 0 → ⊥)
-  refused-as m a = said-of (Refusal m) a
+  pub refused-as : (m room : ℕ) → Refusal m ≡ askedOf v e x → refuse m s ≡ outcomeOf s e x room
+  refused-as m room a = let t = said-of (Refusal m) a in outcome-refused s e x room m (t .0) (t .1)
 
-  -- ---- a press, a cut, a mobile on or off
+  -- ---- a telegram about the link
 
-  abbrev phase : ℕ
-  phase = getD ds (x .desk) noDesk .link .phase
+  link-does : (q : LinkRequest) → x .kind ≡ 1 → request ≡ LinkIs q → accepted s e x ≡ onLink s (x .desk) q
+  unfolding accepted pick
+  link-does q h i = rw (h, i) refl
 
-  two-to-five : (i : ℕ) → 2 ≤ i → i ≤ 5 → (i ≡ 2) ⊎ ((i ≡ 3) ⊎ ((i ≡ 4) ⊎ (i ≡ 5)))
-  two-to-five zero a b = absurd (omega arith)
-  two-to-five (suc zero) a b = absurd (omega arith)
-  two-to-five (suc (suc zero)) a b = inl refl
-  two-to-five (suc (suc (suc zero))) a b = inr (inl refl)
-  two-to-five (suc (suc (suc (suc zero)))) a b = inr (inr (inl refl))
-  two-to-five (suc (suc (suc (suc (suc zero))))) a b = inr (inr (inr refl))
-  two-to-five (suc (suc (suc (suc (suc (suc i)))))) a b = absurd (omega arith)
+  pub linked-as : (q : LinkRequest) (room : ℕ) → OfLink q ≡ askedOf v e x → emit s (onLink s (x .desk) q) room ≡ outcomeOf s e x room
+  linked-as q room a = let t = said-of (OfLink q) a in outcome-accepted s e x room _ (t .0) (link-does q (t .1) (t .2))
 
-  -- the late rows and the rule, kind by kind
-  record OfKind : Type 0 where
-    rows : firstOf late w e r x ≡ lineRefusal x phase (hasChannel s (x .channel)) (channelAt s (x .channel))
-    rule : accepted s e x ≡ byHolder s (x .channel) (eventOf x)
+  -- ---- an event on a channel
 
-  of-kind : (x .kind ≡ 2) ⊎ ((x .kind ≡ 3) ⊎ ((x .kind ≡ 4) ⊎ (x .kind ≡ 5))) → OfKind
-  unfolding firstOf accepted pick
-  of-kind (inl h) = record { rows = rw h refl; rule = rw h refl }
-  of-kind (inr (inl h)) = record { rows = rw h refl; rule = rw h refl }
-  of-kind (inr (inr (inl h))) = record { rows = rw h refl; rule = rw h refl }
-  of-kind (inr (inr (inr h))) = record { rows = rw h refl; rule = rw h refl }
+  two-to-five : (i : ℕ) → 1 ≤ i → i ≤ 5 → (i ≡ 1 → ⊥) → OfLine i
+  two-to-five zero a b h = absurd (omega arith)
+  two-to-five (suc zero) a b h = absurd (h refl)
+  two-to-five (suc (suc zero)) a b h = inl refl
+  two-to-five (suc (suc (suc zero))) a b h = inr (inl refl)
+  two-to-five (suc (suc (suc (suc zero)))) a b h = inr (inr (inl refl))
+  two-to-five (suc (suc (suc (suc (suc zero))))) a b h = inr (inr (inr refl))
+  two-to-five (suc (suc (suc (suc (suc (suc i)))))) a b h = absurd (omega arith)
+
+  abbrev judged : Number → Bool → Channel → ℕ
+  judged m t d = refusalBy x m (ownOf ds (x .desk)) t d
+
+  -- the late rows and the rule
+  record Does (ch : ℕ) (m : Number) (u : Event) : Type 0 where
+    rows : firstOf late w e r x ≡ judged m (hasChannel s ch) (channelAt s ch)
+    rule : accepted s e x ≡ onChannel s ch u
+
+  ask-does : (ch : ℕ) (m : Number) (u : Event) → x .kind ≡ 1 → request ≡ ChannelIs ch m u → Does ch m u
+  unfolding accepted pick
+  ask-does ch m u h i = record { rows = late-ask w e r x ch m u h i ∙ rw (h, i) refl; rule = rw (h, i) refl }
+
+  line-does : (m : Number) → OfLine (x .kind) → Does (x .channel) m (eventOf x (ownOf ds (x .desk)))
+  unfolding accepted pick
+  line-does m (inl h) = record { rows = late-line w e r x m (inl h) ∙ rw h refl; rule = rw h refl }
+  line-does m (inr (inl h)) = record { rows = late-line w e r x m (inr (inl h)) ∙ rw h refl; rule = rw h refl }
+  line-does m (inr (inr (inl h))) = record { rows = late-line w e r x m (inr (inr (inl h))) ∙ rw h refl; rule = rw h refl }
+  line-does m (inr (inr (inr h))) = record { rows = late-line w e r x m (inr (inr (inr h))) ∙ rw h refl; rule = rw h refl }
+
+  does : (ch : ℕ) (m : Number) (u : Event) → (1 ≤ x .kind) × (x .kind ≤ 5) → Tells ch m u → Does ch m u
+  does ch m u kinds (inl t) = ask-does ch m u (t .0) (t .1)
+  does ch m u kinds (inr t) =
+      let q = t .1 in
+      let is-channel : x .channel ≡ ch = cc in
+      let is-event : eventOf x (ownOf ds (x .desk)) ≡ u = cc in
+      subst (λ (y : Event). Does ch m y) is-event (subst (λ (i : ℕ). Does i m (eventOf x (ownOf ds (x .desk)))) is-channel (line-does m (two-to-five (x .kind) (kinds .0) (kinds .1) (t .0))))
 
   -- a channel that was not found is not looked at
-  looked-up : (ch : ℕ) (f : Bool → Channel → ℕ) → ((d : Channel) → f false d ≡ f false c) → Stands s ch place found c → f (hasChannel s ch) (channelAt s ch) ≡ f found c
-  looked-up ch f h a = go found (a .is) (a .channel-is)
+  looked-up : (ch place : ℕ) (m : Number) → Stands s ch place found c → judged m (hasChannel s ch) (channelAt s ch) ≡ judged m found c
+  looked-up ch place m a = go found (a .is) (a .channel-is)
     where
-      go : (t : Bool) → t ≡ hasChannel s ch → (t ≡ true → c ≡ channelAt s ch) → f (hasChannel s ch) (channelAt s ch) ≡ f t c
-      go true i g = ap₂ f (sym i) (sym (g refl))
-      go false i g = ap (λ (t : Bool). f t (channelAt s ch)) (sym i) ∙ h (channelAt s ch)
-
-  pub line-refusal : Asking OnLine → refusalOf s e x ≡ lineRefusal x phase found c
-  line-refusal a =
-      let l = a .line refl in
-      said-of OnLine a ∙ of-kind (two-to-five (x .kind) (l .0) (l .1)) .rows ∙ looked-up (x .channel) (lineRefusal x phase) (λ d. refl) (a .stands)
+      go : (t : Bool) → t ≡ hasChannel s ch → (t ≡ true → c ≡ channelAt s ch) → judged m (hasChannel s ch) (channelAt s ch) ≡ judged m t c
+      go true i g = ap₂ (judged m) (sym i) (sym (g refl))
+      go false i g = ap (λ (t : Bool). judged m t (channelAt s ch)) (sym i)
 
   -- what is not refused was found
-  pub line-found : (t : Bool) → lineRefusal x phase t c ≡ 0 → t ≡ true
-  line-found true h = refl
-  line-found false h = absurd (never (isKind 2 x || isKind 3 x) (not (eqb phase 3)) h)
+  found-is : (m : Number) (t : Bool) → judged m t c ≡ 0 → t ≡ true
+  found-is m true h = refl
+  found-is m false h = absurd (never (isKind 1 x) (isKind 2 x || isKind 3 x) h)
     where
-      never : (b p : Bool) → _≡_ {A = ℕ} (cond b (cond p 11 12) 12) 0 → ⊥
-      never true true h = omega arith
-      never true false h = omega arith
-      never false p h = omega arith
+      never : (a b : Bool) → _≡_ {A = ℕ} (cond a 12 (cond b 12 12)) 0 → ⊥
+      never true b h = omega arith
+      never false true h = omega arith
+      never false false h = omega arith
 
-  pub line-rule : (room : ℕ) → Asking OnLine → lineRefusal x phase found c ≡ 0 → emit s (byHolder s (x .channel) (eventOf x)) room ≡ outcomeOf s e x room
-  line-rule room a z =
-      let l = a .line refl in
-      outcome-accepted s e x room _ (line-refusal a ∙ z) (of-kind (two-to-five (x .kind) (l .0) (l .1)) .rule)
+  pub asked-refusal : (ch : ℕ) (m : Number) (u : Event) (place : ℕ) → Asks s e x ch m u place found c → refusalOf s e x ≡ judged m found c
+  asked-refusal ch m u place a =
+      let t = said-of (OnChannel ch m u) (a .asked) in
+      t .0 ∙ does ch m u (a .kinds) (t .1) .rows ∙ looked-up ch place m (a .stands)
 
-  -- ---- a telegram
+  pub asked-found : (ch : ℕ) (m : Number) (u : Event) (place : ℕ) → Asks s e x ch m u place found c → judged m found c ≡ 0 → Stands s ch place true c
+  asked-found ch m u place a z = subst (λ (t : Bool). Stands s ch place t c) (found-is m found z) (a .stands)
 
-  abbrev desk : Desk
-  desk = getD ds (x .desk) noDesk
-
-  request-rows : (q : Request) → x .kind ≡ 1 → askedIn r ≡ q → Stands s (namedBy q x) place found c → firstOf late w e r x ≡ requestRefusal q (x .desk) desk found c
-  unfolding firstOf
-  request-rows TellsTime h i a = rw (h, i) refl
-  request-rows (TellsState m) h i a = rw (h, i) refl
-  request-rows (AsksChannel ch m o) h i a = rw (h, i) (looked-up ch (λ t d. requestRefusal (AsksChannel ch m o) (x .desk) desk t d) (λ d. refl) (rw h at a))
-  request-rows Foreign h i a = rw (h, i) refl
-
-  pub request-refusal : (q : Request) → Asking (ByTelegram q) → refusalOf s e x ≡ requestRefusal q (x .desk) desk found c
-  request-refusal q a =
-      let t = said-of (ByTelegram q) a in
-      t .0 ∙ request-rows q (t .1) (t .2) (rw (t .1) (a .stands))
-
-  request-does : (q : Request) → x .kind ≡ 1 → askedIn r ≡ q → accepted s e x ≡ onRequest s (x .desk) q
-  unfolding accepted pick
-  request-does q h i = rw (h, i) refl
-
-  pub request-rule : (room : ℕ) (q : Request) → Asking (ByTelegram q) → requestRefusal q (x .desk) desk found c ≡ 0 → emit s (onRequest s (x .desk) q) room ≡ outcomeOf s e x room
-  request-rule room q a z =
-      let t = said-of (ByTelegram q) a in
-      outcome-accepted s e x room _ (request-refusal q a ∙ z) (request-does q (t .1) (t .2))
-
-  -- a channel that is asked for and not refused was found
-  pub asked-found : (q : Request) (ch : ℕ) (m : Number) (o : ℕ) → q ≡ AsksChannel ch m o → Asking (ByTelegram q) → requestRefusal q (x .desk) desk found c ≡ 0 → Stands s ch place true c
-  asked-found q ch m o e a z =
-      let stands : Stands s ch place found c = rw e at (a .stands) in
-      subst (λ (t : Bool). Stands s ch place t c) (go found (rw e at z)) stands
-    where
-      never : (p : Bool) → _≡_ {A = ℕ} (cond p 11 12) 0 → ⊥
-      never true h = omega arith
-      never false h = omega arith
-
-      go : (t : Bool) → requestRefusal (AsksChannel ch m o) (x .desk) desk t c ≡ 0 → t ≡ true
-      go true h = refl
-      go false h = absurd (never (not (eqb (desk .link .phase) 3)) h)
+  pub asked-rule : (ch : ℕ) (m : Number) (u : Event) (place room : ℕ) → Asks s e x ch m u place found c → judged m found c ≡ 0 → emit s (onChannel s ch u) room ≡ outcomeOf s e x room
+  asked-rule ch m u place room a z =
+      let t = said-of (OnChannel ch m u) (a .asked) in
+      outcome-accepted s e x room _ (asked-refusal ch m u place a ∙ z) (does ch m u (a .kinds) (t .1) .rule)

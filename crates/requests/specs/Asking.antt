@@ -1,0 +1,75 @@
+-- What an entry about one desk's link or one channel asks, as the code holds it: an answer to the rows up to 11.
+use Prim.Native.Nat.{ℕ}
+use mathlib.Core.List.{List}
+use mathlib.Core.Bool.{Bool, cond}
+use lib.Dec.{eqb}
+use lib.ListN.{take, drop}
+use Rattle.telegram.specs.Telegram.{num, readTelegram}
+use Rattle.telegram.specs.declared.message.Number.{Number}
+use Rattle.telegram.specs.declared.message.Reading.{Reading}
+use Rattle.telegram.specs.declared.message.Reading.the-variants.{Telegram, Refused}
+use Rattle.channel.specs.declared.state.Channel.{Channel}
+use Rattle.channel.specs.declared.state.Event.{Event}
+use Rattle.channel.specs.declared.state.Event.the-variants.{Cut, PressOn, PressOff, MobileOn, MobileOff}
+use Rattle.set_rules.specs.State.{ownOf}
+use Rattle.set_rules.specs.Entries.{telegramIn}
+use Rattle.set_rules.specs.SetRules.{numberIn}
+use Rattle.set_rules.specs.Refusals.{Lookup, Test, isKind, codeIs, identifierIs, askedBy, askedIn, phaseOf, table, firstOf}
+use Rattle.set_rules.specs.declared.state.Desk.{Desk}
+use Rattle.set_rules.specs.declared.state.Entry.{Entry}
+use Rattle.set_rules.specs.declared.state.Request.{Request}
+use Rattle.set_rules.specs.declared.state.Request.the-variants.{OfLink as LinkIs, OnChannel as ChannelIs, Foreign}
+use Rattle.requests.specs.declared.request.Asked.{Asked}
+use Rattle.requests.specs.declared.request.Asked.the-variants.{Refusal, OfLink, OnChannel}
+
+-- what the rows go by, as the code has it
+abbrev pub seen : Bool → List Desk → ℕ → Bool → Channel → Lookup
+seen planned ds n found c = record { planned = planned; desks = ds; count = n; found = found; channel = c }
+
+-- the rows 4 to 11, which do not look at a channel, and those behind them
+abbrev pub early : List (ℕ × Test)
+early = take 8 table
+
+abbrev pub late : List (ℕ × Test)
+late = drop 8 table
+
+-- what a request asks; one that no desk sends is 9
+abbrev pub asking : Request → Asked
+asking (LinkIs q) = OfLink q
+asking (ChannelIs ch n v) = OnChannel ch n v
+asking Foreign = Refusal 9
+
+-- why a telegram that does not read is refused
+abbrev pub unreadAs : ℕ → Reading → ℕ
+unreadAs k r = cond (codeIs k r) (cond (identifierIs r) 10 9) 8
+
+-- what the telegram of desk d, whose code is k, asks
+abbrev pub telegramAsked : ℕ → ℕ → Reading → Asked
+telegramAsked d k (Telegram c m) = cond (eqb c k) (asking (askedBy d m)) (Refusal 8)
+telegramAsked d k (Refused n c i) = Refusal (unreadAs k (Refused n c i))
+
+-- what is asked, if the link is in the phase that it needs
+abbrev pub inPhase : ℕ → Asked → Asked
+inPhase phase (Refusal n) = Refusal n
+inPhase phase (OfLink q) = cond (eqb phase (phaseOf (LinkIs q))) (OfLink q) (Refusal 11)
+inPhase phase (OnChannel ch n v) = cond (eqb phase 3) (OnChannel ch n v) (Refusal 11)
+
+-- what an entry that is no telegram makes happen on its channel, if its desk has this number
+abbrev pub eventOf : Entry → Number → Event
+eventOf x own =
+    cond (eqb (x .kind) 2) (cond (eqb (x .on) 1) (PressOn (x .desk) own) PressOff)
+    (cond (eqb (x .kind) 3) Cut
+    (cond (eqb (x .kind) 4) (MobileOn (x .base) (numberIn (x .number)))
+    MobileOff))
+
+-- what an entry asks that has no refusal up to 11
+abbrev pub askedFor : List Desk → Reading → Entry → Asked
+askedFor ds r x = cond (isKind 1 x) (asking (askedIn (x .desk) r)) (OnChannel (x .channel) (num 0) (eventOf x (ownOf ds (x .desk))))
+
+abbrev pub unless : ℕ → Asked → Asked
+unless n a = cond (eqb n 0) a (Refusal n)
+
+unfoldable pub askedOf : Lookup → List ℕ → Entry → Asked
+askedOf v e x =
+    let r : Reading = readTelegram (telegramIn e) in
+    unless (x .refusal) (unless (firstOf early v e r x) (askedFor (v .desks) r x))

@@ -1,0 +1,36 @@
+-- The rows from 12 on, once the kind is known: what the functions that judge give. That they are the table's is `late-rows`
+-- (`proofs/Rows.antt`).
+use Prim.Native.Nat.{ℕ}
+use mathlib.Core.Bool.{Bool, _&&_, _||_, not, cond}
+use lib.Dec.{eqb}
+use Rattle.telegram.specs.declared.message.Number.{Number}
+use Rattle.channel.specs.State.{isIn, heldBy, isPresent}
+use Rattle.channel.specs.declared.state.Channel.{Channel}
+use Rattle.line_rules.specs.Rules.{isPressed}
+use Rattle.set_rules.specs.Refusals.{isKind, isCaller}
+use Rattle.set_rules.specs.declared.state.Entry.{Entry}
+
+-- a telegram of desk d: the number that it gives, and the desk's own
+abbrev pub askRefusal : ℕ → Number → Number → Bool → Channel → ℕ
+askRefusal d number own found c =
+    cond (not (found && isIn d (c .entitled))) 12 (cond (not (eqb (number .digits) (own .digits))) 13 0)
+
+-- press and cut
+abbrev pub pressRefusal : Entry → Bool → Channel → ℕ
+pressRefusal x found c =
+    cond (not (found && isIn (x .desk) (c .entitled))) 12
+    (cond (not (heldBy (x .desk) (c .holder))) 14
+    (cond (isKind 2 x && eqb (x .on) (cond (isPressed c) 1 0)) 15 0))
+
+-- mobile on and off
+abbrev pub mobileRefusal : Entry → Bool → Channel → ℕ
+mobileRefusal x found c =
+    cond (not found) 12
+    (cond (isKind 4 x && not (isCaller (x .number))) 13
+    (cond (cond (isKind 4 x) (isPresent (c .arrival)) (not (isPresent (c .arrival)))) 15 0))
+
+abbrev pub refusalBy : Entry → Number → Number → Bool → Channel → ℕ
+refusalBy x number own found c =
+    cond (isKind 1 x) (askRefusal (x .desk) number own found c)
+    (cond (isKind 2 x || isKind 3 x) (pressRefusal x found c)
+    (mobileRefusal x found c))
