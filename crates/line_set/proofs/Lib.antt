@@ -1,6 +1,7 @@
+pub mod Lengths
 pub mod Seeking
 pub mod WholeSet
 pub mod Emission
 pub mod Turns
-pub mod Lengths
+pub mod Ticking
 pub mod OneStep

@@ -1,26 +1,26 @@
--- Loops over the channels of a plan: the space counted, the records written and the channels changed so far.
+-- Loops over the channels of a plan: the space counted and the records written so far.
 -- Assumes nothing.
-use Prim.Native.Nat.{ℕ, suc, _+_, _*_, _≤_, _<_}
-use mathlib.Core.List.{List, [], _∷_, _++_, append-assoc}
-use mathlib.Core.Path.{_≡_, refl, sym, ap, subst, _∙_}
+use Prim.Native.Nat.{ℕ, _+_, _*_, _≤_, _<_}
+use mathlib.Core.List.{List, [], _∷_, _++_, map, append-assoc}
+use mathlib.Core.Bool.{cond}
+use mathlib.Core.Path.{_≡_, refl, sym, ap, _∙_}
 use native.Mathlib.Nat.{zero-add}
 use native.Mathlib.Numerals.{add-one}
 use native.Mathlib.Omega.{arith}
-use lib.ListN.{length, take, drop, getD, set, drop-of-length-le}
-use lib.Seq.{drop-cons, take-suc, set-at, getD-at, set-getD, length-take-le}
-use Rattle.laws.proofs.Lists.{take-count, drop-count}
-use Rattle.channel.specs.State.{holderPlace}
-use Rattle.line_rules.specs.Rules.{Context, Step, tick, happens}
+use lib.ListN.{length, drop, getD, drop-of-length-le}
+use lib.Dec.{ltb}
+use lib.Seq.{drop-cons}
+use Rattle.laws.proofs.Lists.{at-taken}
 use Rattle.channel.specs.declared.state.Channel.{Channel}
-use Rattle.timers.specs.Falls.{falling, tickBy}
-use Rattle.channel.specs.declared.state.Falling.{Falling}
-use Rattle.timers.proofs.Ticks.{tick-falling}
-use Rattle.channel.specs.declared.state.Event.{Event}
-use Rattle.channel.specs.declared.state.Event.the-variants.{Tick}
+use Rattle.channel.specs.declared.state.Event.the-variants.{EndTalk, EndCall}
+use Rattle.channel.specs.declared.state.Send.{Send}
 use Rattle.records.proofs.Writing.{Split}
 use Rattle.set_rules.specs.Records.{Delivery, delivered, toEach, recordsOf, spaceOf}
-use Rattle.set_rules.specs.SetRules.{contextOf, movedIn, sentIn, nextsOf, sendsOf}
+use Rattle.set_rules.specs.SetRules.{sentIn, sendsOf, endSends}
+use Rattle.set_rules.specs.State.{noChannel, channelsOf}
 use Rattle.set_rules.specs.declared.state.Desk.{Desk}
+use Rattle.set_rules.specs.declared.state.LineSet.{LineSet}
+use Rattle.line_set.proofs.Seeking.{counted}
 
 space-append : (vs ws : List Delivery) → spaceOf (vs ++ ws) ≡ spaceOf vs + spaceOf ws
 unfolding spaceOf
@@ -32,99 +32,91 @@ unfolding recordsOf
 records-append ds [] ws = refl
 records-append ds (v ∷ vs) ws = ap (λ (l : List ℕ). toEach 8 0 ds v ++ l) (records-append ds vs ws) ∙ sym (append-assoc (toEach 8 0 ds v) (recordsOf ds vs) (recordsOf ds ws))
 
-module _ (ds : List Desk) (n : ℕ) (v : Event) (cs : List Channel) where
-  sends-turn : (i : ℕ) (z : Channel) → i < length cs → sendsOf ds n v (drop i cs) ≡ sentIn ds n v (getD cs i z) ++ sendsOf ds n v (drop (i + 1) cs)
-  unfolding sendsOf
-  sends-turn i z h = rw (drop-cons cs i z h, add-one) refl
+delivered-append : (ds : List Desk) (ch : ℕ) (ss ts : List Send) → delivered ds ch (ss ++ ts) ≡ delivered ds ch ss ++ delivered ds ch ts
+unfolding delivered
+delivered-append ds ch [] ts = refl
+delivered-append ds ch (s ∷ ss) ts = rw (delivered-append ds ch ss ts) refl
 
-  sends-end : (i : ℕ) → length cs ≤ i → sendsOf ds n v (drop i cs) ≡ []
+-- the channel at a place
+pub record At (cs : List Channel) (i : ℕ) (c : Channel) : Type 0 where
+  pub within : i < length cs
+  pub is : getD cs i noChannel ≡ c
+
+-- the code's: below the count of the plan's channels, whatever stands for those that are not there
+pub here : {B : Type 0} (s : LineSet) (f : Channel → B) (count i : ℕ) (z : Channel) → length (map f (s .channels)) ≡ 32 → count ≡ cond (ltb 32 (s .size .channels)) 32 (s .size .channels) → i < count
+    → At (channelsOf s) i (getD (s .channels) i z)
+here s f count i z l e h =
+    let w : i < length (channelsOf s) = omega (arith, counted (s .channels) (s .size .channels) f count l e) in
+    record { within = w; is = at-taken (s .channels) (s .size .channels) i noChannel z w }
+
+-- ---- of what each channel sends by f
+
+module _ (ds : List Desk) (f : Channel → List Send) (cs : List Channel) where
+  -- what the channels from place i on send
+  abbrev pub left : ℕ → List Delivery
+  left i = sendsOf ds f (drop i cs)
+
+  abbrev pub sent : Channel → List Delivery
+  sent c = delivered ds (c .code) (f c)
+
+  sends-turn : (i : ℕ) (c : Channel) → At cs i c → left i ≡ sent c ++ left (i + 1)
+  unfolding sendsOf
+  sends-turn i c p = rw (drop-cons cs i noChannel (p .within), add-one, p .is) refl
+
+  sends-end : (i : ℕ) → length cs ≤ i → left i ≡ []
   unfolding sendsOf
   sends-end i h = rw (drop-of-length-le cs h) refl
 
-  -- ---- the space counted
+  -- ---- the space counted: two events on a channel at most, of 2,856 bytes each
 
   pub record Summed (i sum : ℕ) : Type 0 where
-    pub total : sum + spaceOf (sendsOf ds n v (drop i cs)) ≡ spaceOf (sendsOf ds n v cs)
-    pub bound : sum ≤ i * 2856
+    pub total : sum + spaceOf (left i) ≡ spaceOf (sendsOf ds f cs)
+    pub bound : sum ≤ i * 5712
 
   pub sum-first : Summed 0 0
   sum-first = record { total = zero-add _; bound = omega arith }
 
-  pub sum-next : (i : ℕ) (z : Channel) (sum one : ℕ) → i < length cs → one ≡ spaceOf (sentIn ds n v (getD cs i z)) → one ≤ 2856 → Summed i sum → Summed (i + 1) (sum + one)
-  sum-next i z sum one h e b m =
-      let t : spaceOf (sendsOf ds n v (drop i cs)) ≡ spaceOf (sentIn ds n v (getD cs i z)) + spaceOf (sendsOf ds n v (drop (i + 1) cs)) = ap spaceOf (sends-turn i z h) ∙ space-append _ _ in
+  pub sum-next : (i : ℕ) (c : Channel) (sum sum′ : ℕ) → At cs i c → sum′ ≡ sum + spaceOf (sent c) → sum′ ≤ sum + 5712 → Summed i sum → Summed (i + 1) sum′
+  sum-next i c sum sum′ p e b m =
+      let t : spaceOf (left i) ≡ spaceOf (sent c) + spaceOf (left (i + 1)) = ap spaceOf (sends-turn i c p) ∙ space-append _ _ in
       record { total = omega (arith, m .total, t, e); bound = omega (arith, m .bound, b) }
 
-  pub sum-last : (i sum : ℕ) → length cs ≤ i → Summed i sum → sum ≡ spaceOf (sendsOf ds n v cs)
+  pub sum-last : (i sum : ℕ) → length cs ≤ i → Summed i sum → sum ≡ spaceOf (sendsOf ds f cs)
   unfolding spaceOf
-  sum-last i sum h m = let t : spaceOf (sendsOf ds n v (drop i cs)) ≡ 0 = rw (sends-end i h) refl in omega (arith, m .total, t)
+  sum-last i sum h m = let t : spaceOf (left i) ≡ 0 = rw (sends-end i h) refl in omega (arith, m .total, t)
 
   -- ---- the records written
 
-  pub put-turn : (i : ℕ) (z : Channel) → i < length cs
-      → Split (recordsOf ds (sendsOf ds n v (drop i cs))) (recordsOf ds (sentIn ds n v (getD cs i z))) (recordsOf ds (sendsOf ds n v (drop (i + 1) cs)))
-  put-turn i z h = record { parts = ap (λ (l : List Delivery). recordsOf ds l) (sends-turn i z h) ∙ records-append ds _ _ }
+  pub put-turn : (i : ℕ) (c : Channel) → At cs i c → Split (recordsOf ds (left i)) (recordsOf ds (sent c)) (recordsOf ds (left (i + 1)))
+  put-turn i c p = record { parts = ap (λ (l : List Delivery). recordsOf ds l) (sends-turn i c p) ∙ records-append ds _ _ }
 
-  pub put-end : (i : ℕ) → length cs ≤ i → recordsOf ds (sendsOf ds n v (drop i cs)) ≡ []
+  pub put-end : (i : ℕ) → length cs ≤ i → recordsOf ds (left i) ≡ []
   unfolding recordsOf
   put-end i h = rw (sends-end i h) refl
 
--- ---- what a tick sends where no timer runs out
+-- ---- of what a handover sends: the ends of talk, then those of the call
 
-silent-space : (ds : List Desk) (n : ℕ) (c : Channel) → ((x : Context) → tick x c .sends ≡ []) → spaceOf (sentIn ds n Tick c) ≡ 0
-unfolding happens spaceOf delivered
-silent-space ds n c h = rw (h (contextOf ds n c (holderPlace (c .holder)))) refl
+module _ (ds : List Desk) (n : ℕ) (cs : List Channel) (i : ℕ) (c : Channel) where
+  abbrev pub ofTalk : List Delivery
+  ofTalk = sentIn ds n EndTalk c
 
-pub sum-silent : (ds : List Desk) (n : ℕ) (cs : List Channel) (i : ℕ) (z : Channel) → i < length cs → ((x : Context) → tick x (getD cs i z) .sends ≡ [])
-    → Summed ds n Tick cs i 0 → Summed ds n Tick cs (i + 1) 0
-sum-silent ds n cs i z h k m = sum-next ds n Tick cs i z 0 0 h (sym (silent-space ds n (getD cs i z) k)) (omega arith) m
+  abbrev pub ofCall : List Delivery
+  ofCall = sentIn ds n EndCall c
 
--- ---- the channels after a tick
+  pub ends-next : (sum talk call : ℕ) → At cs i c → (talk ≡ spaceOf ofTalk) × (talk ≤ 2856) → (call ≡ spaceOf ofCall) × (call ≤ 2856)
+      → Summed ds (endSends ds n) cs i sum → Summed ds (endSends ds n) cs (i + 1) (sum + talk + call)
+  ends-next sum talk call p a b m =
+      let both : spaceOf (sent ds (endSends ds n) cs c) ≡ spaceOf ofTalk + spaceOf ofCall = ap spaceOf (delivered-append ds (c .code) _ _) ∙ space-append _ _ in
+      sum-next ds (endSends ds n) cs i c sum (sum + talk + call) p (omega (arith, both)) (omega arith) m
 
--- a channel, by what the tick does to its timers
-pub fall-next : (x : Context) (c k : Channel) (f : Falling) → falling c ≡ f → c ≡ k → tickBy f x c .next ≡ tick x k .next
-fall-next x c k f e g = sym (ap (λ (st : Step). st .next) (tick-falling x c) ∙ ap (λ (h : Falling). tickBy h x c .next) e) ∙ ap (λ (j : Channel). tick x j .next) g
+  abbrev pub callLeft : List ℕ
+  callLeft = recordsOf ds ofCall ++ recordsOf ds (left ds (endSends ds n) cs (i + 1))
 
-module _ (ds : List Desk) (n : ℕ) where
-  nexts-append : (cs rest : List Channel) → nextsOf ds n Tick (cs ++ rest) ≡ nextsOf ds n Tick cs ++ nextsOf ds n Tick rest
-  unfolding nextsOf
-  nexts-append [] rest = refl
-  nexts-append (c ∷ cs) rest = ap (λ (l : List Channel). movedIn ds n Tick c .next ∷ l) (nexts-append cs rest)
+  pub talk-turn : At cs i c → Split (recordsOf ds (left ds (endSends ds n) cs i)) (recordsOf ds ofTalk) callLeft
+  talk-turn p =
+      let both : recordsOf ds (sent ds (endSends ds n) cs c) ≡ recordsOf ds ofTalk ++ recordsOf ds ofCall =
+      ap (λ (l : List Delivery). recordsOf ds l) (delivered-append ds (c .code) _ _) ∙ records-append ds _ _ in
+      record { parts = put-turn ds (endSends ds n) cs i c p .parts ∙ rw (both, append-assoc) refl }
 
-  length-nexts : (cs : List Channel) → length (nextsOf ds n Tick cs) ≡ length cs
-  unfolding nextsOf
-  length-nexts [] = refl
-  length-nexts (c ∷ cs) = ap suc (length-nexts cs)
-
-module _ (cs : List Channel) where
-  -- the first i channels are ticked
-  pub record Ticked (i : ℕ) (out : List Channel) : Type 0 where
-    pub is : (ds : List Desk) (n : ℕ) → out ≡ nextsOf ds n Tick (take i cs) ++ drop i cs
-
-  pub tick-first : Ticked 0 cs
-  unfolding nextsOf
-  tick-first = record { is = λ ds n. refl }
-
-  -- the next one is as it was
-  pub tick-at : (i : ℕ) (y z : Channel) (out : List Channel) → i < length cs → Ticked i out → getD out i y ≡ getD cs i z
-  tick-at i y z out h m =
-      let l : length (nextsOf [] 0 Tick (take i cs)) ≡ i = length-nexts [] 0 (take i cs) ∙ length-take-le i cs (omega arith) in
-      rw (m .is [] 0, drop-cons cs i z h) (getD-at (nextsOf [] 0 Tick (take i cs)) (getD cs i z) (drop (suc i) cs) y i l)
-
-  pub tick-next : (i : ℕ) (z : Channel) (out : List Channel) (y : Channel) → i < length cs → ((x : Context) → y ≡ tick x (getD cs i z) .next) → Ticked i out → Ticked (i + 1) (set out i y)
-  unfolding nextsOf happens
-  tick-next i z out y h e m = record { is = λ ds n. turned ds n }
-    where
-      turned : (ds : List Desk) (n : ℕ) → set out i y ≡ nextsOf ds n Tick (take (i + 1) cs) ++ drop (i + 1) cs
-      turned ds n =
-          let l : length (nextsOf ds n Tick (take i cs)) ≡ i = length-nexts ds n (take i cs) ∙ length-take-le i cs (omega arith) in
-          rw (add-one, m .is ds n, drop-cons cs i z h, set-at (nextsOf ds n Tick (take i cs)) (getD cs i z) (drop (suc i) cs) y i l, take-suc cs i z h, nexts-append ds n (take i cs) (getD cs i z ∷ []), e (contextOf ds n (getD cs i z) (holderPlace (getD cs i z .holder))))
-          (sym (append-assoc (nextsOf ds n Tick (take i cs)) (movedIn ds n Tick (getD cs i z) .next ∷ []) (drop (suc i) cs)))
-
-  -- a channel that a tick leaves
-  pub tick-kept : (i : ℕ) (y z : Channel) (out : List Channel) → i < length cs → ((x : Context) → getD out i y ≡ tick x (getD cs i z) .next) → Ticked i out → Ticked (i + 1) out
-  tick-kept i y z out h k m = subst (λ (l : List Channel). Ticked (i + 1) l) (set-getD out i y) (tick-next i z out (getD out i y) h k m)
-
-  -- as many as a plan has
-  pub tick-last : (k i : ℕ) (out : List Channel) → i ≡ length (take k cs) → Ticked i out → (ds : List Desk) (n : ℕ) → out ≡ nextsOf ds n Tick (take k cs) ++ drop k cs
-  tick-last k i out h m ds n = m .is ds n ∙ rw (h, take-count k cs, drop-count k cs) refl
+  pub call-turn : Split callLeft (recordsOf ds ofCall) (recordsOf ds (left ds (endSends ds n) cs (i + 1)))
+  call-turn = record { parts = refl }

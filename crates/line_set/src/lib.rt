@@ -1,6 +1,5 @@
 // The line set: one entry after another steps it.
 mod all;
-mod answer;
 mod entry;
 mod lent;
 mod places;

@@ -1,32 +1,32 @@
 // A plan makes the set anew, and each desk is asked for the time.
-use super::answer;
 use records::Body;
 use set_rules::Answer;
-use set_rules::LineSet;
 ghost use Rattle.line_set.specs.Plans.{PlanGives};
 
-// An entry that is a plan, by the bytes of the plan.
-pub fn plan(set: LineSet, bytes: &[u8], buffer: &mut [u8]) -> Answer
-    ensures { λ r. ⌜ PlanGives set (now (bytes .entry)) r (now (buffer .entry)) (now (buffer .exit)) ⌝ }
+// An entry that is a plan, by the bytes of the plan, where there is none yet. Where it is refused, the set given is not to be
+// used.
+pub fn plan(bytes: &[u8], buffer: &mut [u8]) -> Answer
+    ensures { λ r. ⌜ PlanGives (now (bytes .entry)) r (now (buffer .entry)) (now (buffer .exit)) ⌝ }
 {
-    if set.planned {
-        return answer::refuse(set, 5);
-    }
     let p = entries::read_plan(bytes);
+    let set = p.set;
+    let mut count = 0;
+    let mut refusal = 0;
     if !p.ok {
-        return answer::refuse(set, 6);
+        refusal = 6;
+    } else {
+        let desks = set.desks;
+        let recipients = channel::first_desks(set.size.desks);
+        let need = records::space_to(recipients, Body::TimeRequest);
+        if buffer.len() < need {
+            refusal = 16;
+        } else {
+            count = records::put_to(buffer, 0, desks, recipients, Body::TimeRequest);
+        }
     }
-    let next = p.set;
-    let desks = next.desks;
-    let recipients = channel::first_desks(next.size.desks);
-    let need = records::space_to(recipients, Body::TimeRequest);
-    if buffer.len() < need {
-        return answer::refuse(set, 16);
-    }
-    records::put_to(buffer, 0, desks, recipients, Body::TimeRequest);
     Answer {
-        set: next,
-        count: need,
-        refusal: 0,
+        set,
+        count,
+        refusal,
     }
 }

@@ -1,30 +1,26 @@
 -- `line_set::all::put_all` meets its contract: the records of the channels passed are written.
 -- Assumes nothing.
-use Prim.Native.Nat.{ℕ, _+_, _-_, _≤_, _<_}
-use mathlib.Core.List.{List}
-use mathlib.Core.Path.{_≡_, sym, ap, subst, _∙_}
+use Prim.Native.Nat.{_-_, _≤_}
 use native.Mathlib.Omega.{arith}
-use lib.ListN.{length, drop, set, length-map}
-use Rattle.laws.proofs.Lists.{at-taken}
-use Rattle.channel.specs.declared.state.Channel.{Channel}
-use Rattle.set_rules.specs.State.{noChannel, channelsOf}
-use borrow.Author.Needs.{needs}
-use Rattle.line_set.proofs.Seeking.{count-is}
-use Rattle.records.specs.Emitting.{written}
+use Rattle.set_rules.specs.State.{channelsOf}
 use Rattle.records.proofs.Writing.{Writing, start, next, room, done}
 use Rattle.set_rules.specs.Records.{recordsOf}
-use Rattle.set_rules.specs.SetRules.{sentIn, sendsOf}
-use Rattle.line_set.proofs.Turns.{put-turn, put-end}
+use Rattle.set_rules.specs.SetRules.{endSends, onHandover}
+use borrow.Author.Needs.{needs}
+use Rattle.line_set.proofs.Seeking.{counted}
+use Rattle.line_set.proofs.Turns.{here, left, talk-turn, call-turn, put-end}
 use Rattle.line_set.proofs.all.put_all.Statement.{statement}
 use Rattle.line_set.proofs.all.put_all.Tie as tie
 
 abbrev Inv-loop : tie.InvT-loop
-Inv-loop event buffer₀ set desks n end at₀ i₀ buffer at i = Writing buffer₀ 0 (recordsOf (set .desks) (sendsOf (set .desks) (set .size .desks) event (channelsOf set))) buffer at (recordsOf (set .desks) (sendsOf (set .desks) (set .size .desks) event (drop i (channelsOf set)))) × (i ≤ end)
+Inv-loop buffer₀ set desks n end at₀ i₀ buffer at i =
+    Writing buffer₀ 0 (recordsOf (set .desks) (onHandover set .sent)) buffer at (recordsOf (set .desks) (left (set .desks) (endSends (set .desks) (set .size .desks)) (channelsOf set) i)) × (i ≤ end)
 
 abbrev μ-loop : tie.MeasureT-loop
-μ-loop event buffer₀ set desks n end at₀ i₀ buffer at i = end - i
+μ-loop buffer₀ set desks n end at₀ i₀ buffer at i = end - i
 
 loop-holds : tie.Need-loop-holds Inv-loop μ-loop
+unfolding onHandover
 loop-holds c = (start _ _ _, omega arith)
 
 put-in-requires : tie.Need-put-in-requires Inv-loop μ-loop
@@ -32,25 +28,27 @@ put-in-requires c κs =
     let st = c .before .before .before .before .before .before .before in
     let s = st .args .t1 in
     let l = c .before .before .before .loop in
-    let n : length (s .channels) ≡ 32 = sym (length-map (s .channels) _) ∙ (st .good .0 .1 .1 .0 .1 .0 .1) in
-    let e = c .before .before .before .before .count-of .ensures .0 ∙ count-is (s .channels) (s .size .channels) n in
-    let h : l .i < length (channelsOf s) = omega (arith, e, c .before .before .loop-test .taken) in
-    let g = at-taken (s .channels) (s .size .channels) (l .i) noChannel _ h in
-    let w = room (l .inv .0) (put-turn (s .desks) (s .size .desks) (st .args .event) (channelsOf s) (l .i) noChannel h) (omega (arith, st .pre)) in
-    subst (λ (x : Channel). l .at + length (recordsOf (s .desks) (sentIn (s .desks) (s .size .desks) (st .args .event) x)) ≤ length (l .buffer)) g w
+    let p = here s _ _ (l .i) _ (st .good .0 .1 .1 .0 .1 .0 .1) (c .before .before .before .before .count-of .ensures .0) (c .before .before .loop-test .taken) in
+    room (l .inv .0) (talk-turn (s .desks) (s .size .desks) (channelsOf s) (l .i) _ p) (omega (arith, st .pre))
+
+put-in-requires-2 : tie.Need-put-in-requires-2 Inv-loop μ-loop
+put-in-requires-2 c κs =
+    let st = c .before .before .before .before .before .before .before .before .before .before .before in
+    let s = st .args .t1 in
+    let l = c .before .before .before .before .before .before .before .loop in
+    let p = here s _ _ (l .i) _ (st .good .0 .1 .1 .0 .1 .0 .1) (c .before .before .before .before .before .before .before .before .count-of .ensures .0) (c .before .before .before .before .before .before .loop-test .taken) in
+    let talk = c .before .before .before .put-in .ensures in
+    room (next (l .inv .0) (talk-turn (s .desks) (s .size .desks) (channelsOf s) (l .i) _ p) (talk .0) (talk .1)) (call-turn (s .desks) (s .size .desks) (channelsOf s) (l .i) _) (omega (arith, st .pre))
 
 loop-again : tie.Need-loop-again Inv-loop μ-loop
 loop-again c =
-    let st = c .before .before .before .before .before .before .before .before .before .before in
+    let st = c .before .before .before .before .before .before .before .before .before .before .before .before .before .before in
     let s = st .args .t1 in
-    let l = c .before .before .before .before .before .before .loop in
-    let n : length (s .channels) ≡ 32 = sym (length-map (s .channels) _) ∙ (st .good .0 .1 .1 .0 .1 .0 .1) in
-    let e = c .before .before .before .before .before .before .before .count-of .ensures .0 ∙ count-is (s .channels) (s .size .channels) n in
-    let h : l .i < length (channelsOf s) = omega (arith, e, c .before .before .before .before .before .loop-test .taken) in
-    let g = at-taken (s .channels) (s .size .channels) (l .i) noChannel _ h in
-    let bytes : Channel → List ℕ = λ (x : Channel). recordsOf (s .desks) (sentIn (s .desks) (s .size .desks) (st .args .event) x) in (
-      next (l .inv .0) (put-turn (s .desks) (s .size .desks) (st .args .event) (channelsOf s) (l .i) noChannel h)
-          (c .before .before .put-in .ensures .0 ∙ ap (λ (x : Channel). l .at + length (bytes x)) (sym g)) (c .before .before .put-in .ensures .1 ∙ ap (λ (x : Channel). written (l .buffer) (l .at) (bytes x)) (sym g)),
+    let l = c .before .before .before .before .before .before .before .before .before .before .loop in
+    let p = here s _ _ (l .i) _ (st .good .0 .1 .1 .0 .1 .0 .1) (c .before .before .before .before .before .before .before .before .before .before .before .count-of .ensures .0) (c .before .before .before .before .before .before .before .before .before .loop-test .taken) in
+    let talk = c .before .before .before .before .before .before .put-in .ensures in
+    let call = c .before .before .put-in2 .ensures in (
+      next (next (l .inv .0) (talk-turn (s .desks) (s .size .desks) (channelsOf s) (l .i) _ p) (talk .0) (talk .1)) (call-turn (s .desks) (s .size .desks) (channelsOf s) (l .i) _) (call .0) (call .1),
       omega arith,
     )
 
@@ -62,14 +60,12 @@ returns c =
     let st = c .before .before .before .before .before in
     let s = st .args .t1 in
     let l = c .before .loop in
-    let n : length (s .channels) ≡ 32 = sym (length-map (s .channels) _) ∙ (st .good .0 .1 .1 .0 .1 .0 .1) in
-    let e = c .before .before .count-of .ensures .0 ∙ count-is (s .channels) (s .size .channels) n in
-    let d = done (l .inv .0) (put-end (s .desks) (s .size .desks) (st .args .event) (channelsOf s) (l .i) (omega (arith, e, c .loop-test .left))) in
-    d
+    let e = counted (s .channels) (s .size .channels) _ _ (st .good .0 .1 .1 .0 .1 .0 .1) (c .before .before .count-of .ensures .0) in
+    done (l .inv .0) (put-end (s .desks) (endSends (s .desks) (s .size .desks)) (channelsOf s) (l .i) (omega (arith, e, c .loop-test .left)))
 
 pub put-all-spec : {M : Type 1} → statement M
 put-all-spec =
     tie.close
     (tie.spec
     Inv-loop μ-loop (λ c κs. search needs) loop-holds (λ c. search needs) (λ c. search needs) put-in-requires
-    (λ c. search needs) (λ c. search needs) loop-again same-length returns)
+    put-in-requires-2 (λ c. search needs) (λ c. search needs) loop-again same-length returns)

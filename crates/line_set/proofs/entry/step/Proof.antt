@@ -1,131 +1,331 @@
--- `line_set::step` meets its contract: a plan, a tick and a handover are taken whole, and any other entry by its channel.
+-- `line_set::entry::step` meets its contract: a plan, a handover and a tick are taken whole, and any other entry by its channel.
 -- Assumes nothing.
-use Prim.Native.Nat.{ℕ, _-_, _≤_, _<_}
-use mathlib.Core.Logic.{_⊎_, inl, inr}
+use Prim.Native.Nat.{ℕ, _+_, _-_, _≤_, _<_}
 use mathlib.Core.List.{List}
+use mathlib.Core.Bool.{Bool, true}
+use mathlib.Core.Logic.{inl, inr}
 use mathlib.Core.Path.{_≡_, refl, sym, ap, _∙_}
 use native.Mathlib.Omega.{arith}
-use lib.Dec.{eqb}
-use lib.ListN.{length, length-map}
+use lib.Dec.{eqb, ltb}
+use lib.ListN.{length, getD, length-map}
 use denote.Ref.{now}
-use borrow.Author.Tests.{eq-eqb, ne-eqb, eqb-true}
-use Rattle.laws.proofs.Lists.{part-to-end, any-default, at-taken}
-use Rattle.laws.proofs.Tests.{both}
+use borrow.Author.Tests.{eq-eqb, ne-eqb}
+use Rattle.laws.proofs.Lists.{part-to-end, any-default}
+use Rattle.line_rules.specs.Rules.{happens}
 use Rattle.channel.specs.declared.state.Channel.{Channel}
 use Rattle.set_rules.specs.State.{noChannel, channelsOf, placeOf}
 use Rattle.set_rules.specs.Entries.{readEntry}
-use Rattle.set_rules.specs.declared.state.Entry.{Entry}
-use Rattle.laws.proofs.Lists.{any-default}
-use borrow.Author.Needs.{needs}
-use Rattle.line_set.proofs.WholeSet.{tick-step, handover-step}
+use Rattle.set_rules.specs.Records.{spaceOf}
+use Rattle.set_rules.specs.SetRules.{onTick, onHandover}
+use Rattle.set_rules.specs.declared.state.LineSet.{LineSet}
+use Rattle.set_rules.proofs.Answers.{space-length}
+use Rattle.requests.specs.Asking.{seen, askedOf}
+use Rattle.requests.specs.declared.request.Asked.{Asked}
+use Rattle.changes.specs.Changes.{Asks}
 use Rattle.changes.proofs.Changing.{gives-as}
-use Rattle.line_set.proofs.Lengths.{long-enough, kind-read}
-use Rattle.line_set.proofs.OneStep.{step-gives, finished}
-use Rattle.line_set.proofs.Seeking.{Sought, sought-first, sought-next, sought-found, sought-last, count-is}
+use Rattle.changes.proofs.Rules.{refused-as, linked-as}
+use Rattle.line_set.proofs.Emission.{even-handover, left-as-was, no-room, put, settled-new, settled-old, kept}
+use Rattle.line_set.proofs.WholeSet.{as-step, plan-starts, plan-present, plan-taken, tick-step, handover-step}
+use Rattle.line_set.proofs.OneStep.{asks}
+use Rattle.line_set.proofs.Seeking.{Sought, sought-first, sought-next, sought-found, sought-last, counted}
+use Rattle.line_set.proofs.Turns.{At, here, sum-last}
+use Rattle.line_set.proofs.Ticking.{Scanned, scan-first, scan-rest, scan-silent, scan-due, Ticking, tick-first, tick-last, here-still, due-fits, turned, silent-turn, kept-turn}
+use borrow.Author.Needs.{needs}
 use Rattle.line_set.proofs.entry.step.Statement.{statement}
 use Rattle.line_set.proofs.entry.step.Tie as tie
 
--- the channels passed have another code, and the end is that of the plan's channels or the place sought
-abbrev Inv : ℕ → List Channel → ℕ → ℕ → ℕ → Type 0
-Inv code cs count end i = Sought code cs i × (i ≤ end) × (end ≤ count) × ((end ≡ count) ⊎ (end ≡ placeOf code cs))
-
+-- the space of what the channels passed send at the tick, and which of the last are at rest
 abbrev Inv-loop : tie.InvT-loop
-Inv-loop entry buffer set x desks n asked code count end₀ i₀ end i = Inv code (channelsOf set) count end i
+Inv-loop entry buffer set desks n count written refusal need₀ end₀ k₀ need end k = Scanned set need end k × (k ≤ count)
 
 abbrev μ-loop : tie.MeasureT-loop
-μ-loop entry buffer set x desks n asked code count end₀ i₀ end i = end - i
+μ-loop entry buffer set desks n count written refusal need₀ end₀ k₀ need end k = count - k
 
-sub-plan : tie.Need-sub-plan Inv-loop μ-loop
-sub-plan c = let k = (ap (λ (y : Entry). y .kind) (sym (c .before .before .read-entry .ensures)) ∙ c .if1 .taken) in long-enough (now (c .before .before .before .before .before .args .entry)) (kind-read (now (c .before .before .before .before .before .args .entry)) (omega (arith, k)))
+-- the channels passed are ticked
+abbrev Inv-loop2 : tie.InvT-loop2
+Inv-loop2 entry buffer₀ set₀ desks n count written₀ refusal need end k i₀ buffer set written i = Ticking set₀ buffer₀ i set buffer written × (i ≤ end) × (end ≤ count)
 
-part-plan-start : tie.Need-part-plan-start Inv-loop μ-loop
-part-plan-start c = let k = (ap (λ (y : Entry). y .kind) (sym (c .before .before .read-entry .ensures)) ∙ c .if1 .taken) in long-enough (now (c .before .before .before .before .before .args .entry)) (kind-read (now (c .before .before .before .before .before .args .entry)) (omega (arith, k)))
+abbrev μ-loop2 : tie.MeasureT-loop2
+μ-loop2 entry buffer₀ set₀ desks n count written₀ refusal need end k i₀ buffer set written i = end - i
 
-returns : tie.Need-returns Inv-loop μ-loop
+-- the channels passed have another code
+abbrev Inv-loop3 : tie.InvT-loop3
+Inv-loop3 entry buffer set x desks n count written refusal code number event i₀ i = Sought code (channelsOf set) i × (i ≤ count)
+
+abbrev μ-loop3 : tie.MeasureT-loop3
+μ-loop3 entry buffer set x desks n count written refusal code number event i₀ i = count - i
+
+-- ---- what every way through the code begins with: the entry is read, and the plan's channels are counted
+
+abbrev Begun : Type 0
+Begun = tie.After-count-of Inv-loop μ-loop Inv-loop2 μ-loop2 Inv-loop3 μ-loop3
+
+module _ (k : Begun) where
+  abbrev set-at : LineSet
+  set-at = k .before .before .before .before .before .args .t1
+
+  abbrev entry-at : List ℕ
+  entry-at = now (k .before .before .before .before .before .args .entry)
+
+  abbrev buffer-at : List ℕ
+  buffer-at = now (k .before .before .before .before .before .args .buffer)
+
+  abbrev read-at : k .before .before .read-entry .result ≡ readEntry entry-at
+  read-at = k .before .before .read-entry .ensures
+
+  long : length (set-at .channels) ≡ 32
+  long = sym (length-map (set-at .channels) _) ∙ k .before .before .before .before .before .good .0 .1 .1 .0 .1 .0 .1
+
+  count-is : k .count-of .result ≡ length (channelsOf set-at)
+  count-is = counted (set-at .channels) (set-at .size .channels) _ _ (k .before .before .before .before .before .good .0 .1 .1 .0 .1 .0 .1) (k .count-of .ensures .0)
+
+  channel-at : (i : ℕ) (z : Channel) → i < k .count-of .result → At (channelsOf set-at) i (getD (set-at .channels) i z)
+  channel-at i z h = here set-at _ _ i z (k .before .before .before .before .before .good .0 .1 .1 .0 .1 .0 .1) (k .count-of .ensures .0) h
+
+-- ---- a plan
+
+sub-plan : tie.Need-sub-plan Inv-loop μ-loop Inv-loop2 μ-loop2 Inv-loop3 μ-loop3
+sub-plan c =
+    let k = c .before .before .before in
+    plan-starts (set-at k) (entry-at k) _ (read-at k) (c .before .if1 .taken)
+
+returns : tie.Need-returns Inv-loop μ-loop Inv-loop2 μ-loop2 Inv-loop3 μ-loop3
 returns c =
-    let st = c .before .before .before .before .before .before .before .before .before .before in
-    let s = st .args .t1 in
-    let e = now (st .args .entry) in
-    let b = now (st .args .buffer) in
-    let k : readEntry e .kind ≡ 7 = (ap (λ (y : Entry). y .kind) (sym (c .before .before .before .before .before .before .before .read-entry .ensures)) ∙ c .before .before .before .before .before .if1 .taken) in
-    step-gives s e b (c .before .before .plan .ensures e (readEntry e) (kind-read e (omega (arith, k))) k (sym (part-to-end e 4)))
+    let k = c .before .before .before in
+    gives-as (plan-present (set-at k) (entry-at k) _ (read-at k) (length (buffer-at k)) (c .before .if1 .taken) (c .if2 .taken)) (left-as-was (set-at k) 5 (buffer-at k))
 
-returns-2 : tie.Need-returns-2 Inv-loop μ-loop
+returns-2 : tie.Need-returns-2 Inv-loop μ-loop Inv-loop2 μ-loop2 Inv-loop3 μ-loop3
 returns-2 c =
-    let st = c .before .before .before .before .before .before .before .before .before .before .before in
-    let s = st .args .t1 in
-    let e = now (st .args .entry) in
-    let b = now (st .args .buffer) in
-    let t = both _ _ (c .before .before .before .before .if2 .taken) in
-    let k : readEntry e .kind ≡ 6 = (ap (λ (y : Entry). y .kind) (sym (c .before .before .before .before .before .before .before .before .read-entry .ensures)) ∙ eqb-true _ _ (t .1)) in
-    step-gives s e b (gives-as (tick-step s e (readEntry e) (length b) (kind-read e (omega (arith, k))) (t .0) k) (c .before .before .tick .ensures))
+    let k = c .before .before .before .before .before .before .before .before .before .before .before in
+    let r = c .before .before .before .before .before .plan .result in
+    settled-new (set-at k) r (c .before .if3 .taken)
+    (plan-taken (set-at k) (entry-at k) _ (read-at k) r (c .before .before .before .before .before .before .before .before .before .if1 .taken) (c .before .before .before .before .before .before .before .before .if2 .left) (sym (part-to-end (entry-at k) 4)) (c .before .before .before .before .before .plan .ensures))
 
-returns-3 : tie.Need-returns-3 Inv-loop μ-loop
+returns-3 : tie.Need-returns-3 Inv-loop μ-loop Inv-loop2 μ-loop2 Inv-loop3 μ-loop3
 returns-3 c =
-    let st = c .before .before .before .before .before .before .before .before .before .before .before .before .before in
-    let s = st .args .t1 in
-    let e = now (st .args .entry) in
-    let b = now (st .args .buffer) in
-    let t = both _ _ (c .before .before .before .before .if3 .taken) in
-    let k : readEntry e .kind ≡ 8 = (ap (λ (y : Entry). y .kind) (sym (c .before .before .before .before .before .before .before .before .before .before .read-entry .ensures)) ∙ eqb-true _ _ (t .1)) in
-    step-gives s e b (gives-as (handover-step s e (readEntry e) (length b) (kind-read e (omega (arith, k))) (t .0) k) (c .before .before .hand-over .ensures))
+    let k = c .before .before .before .before .before .before .before .before .before .before in
+    let r = c .before .before .before .before .plan .result in
+    settled-old (set-at k) r (c .if3 .left)
+    (plan-taken (set-at k) (entry-at k) _ (read-at k) r (c .before .before .before .before .before .before .before .before .if1 .taken) (c .before .before .before .before .before .before .before .if2 .left) (sym (part-to-end (entry-at k) 4)) (c .before .before .before .before .plan .ensures))
 
-loop-holds : tie.Need-loop-holds Inv-loop μ-loop
-loop-holds c = (sought-first _ _, omega arith, omega arith, inl refl)
+-- ---- a handover
 
-loop-again : tie.Need-loop-again Inv-loop μ-loop
-loop-again c =
-    let st = c .before .before .before .before .before .before .before .before .before .before .before .before .before .before .before .before .before .before in
-    let s = st .args .t1 in
-    let l = c .before .before .before .before .loop in
-    let n : length (s .channels) ≡ 32 = sym (length-map (s .channels) _) ∙ (st .good .0 .1 .1 .0 .1 .0 .1) in
-    let e = c .before .before .before .before .before .count-of .ensures .0 ∙ count-is (s .channels) (s .size .channels) n in
-    let cs = channelsOf s in
-    let code = c .before .before .before .before .before .before .named-in .result in
-    let h : l .i < length cs = omega (arith, e, c .before .before .before .loop-test .taken, l .inv .2) in
-    let g = at-taken (s .channels) (s .size .channels) (l .i) noChannel _ h in
-    let here = sought-found code cs (l .i) noChannel h (ap (λ (x : Channel). eqb (x .code) code) g ∙ eq-eqb _ _ (c .if4 .taken)) (l .inv .0) in
-    (l .inv .0, omega arith, omega (arith, l .inv .1, l .inv .2), inr here)
+put-all-requires : tie.Need-put-all-requires Inv-loop μ-loop Inv-loop2 μ-loop2 Inv-loop3 μ-loop3
+put-all-requires c κs =
+    let s = set-at (c .before .before .before .before .before .before .before) in
+    omega (arith, c .before .before .space-all .ensures, space-length (s .desks) (onHandover s .sent) (even-handover s), c .before .if5 .left)
 
-loop-again-2 : tie.Need-loop-again-2 Inv-loop μ-loop
-loop-again-2 c =
-    let st = c .before .before .before .before .before .before .before .before .before .before .before .before .before .before .before .before .before .before in
-    let s = st .args .t1 in
-    let l = c .before .before .before .before .loop in
-    let n : length (s .channels) ≡ 32 = sym (length-map (s .channels) _) ∙ (st .good .0 .1 .1 .0 .1 .0 .1) in
-    let e = c .before .before .before .before .before .count-of .ensures .0 ∙ count-is (s .channels) (s .size .channels) n in
-    let cs = channelsOf s in
-    let code = c .before .before .before .before .before .before .named-in .result in
-    let h : l .i < length cs = omega (arith, e, c .before .before .before .loop-test .taken, l .inv .2) in
-    let g = at-taken (s .channels) (s .size .channels) (l .i) noChannel _ h in
-    (sought-next code cs (l .i) noChannel h (ap (λ (x : Channel). eqb (x .code) code) g ∙ ne-eqb _ _ (c .if4 .left)) (l .inv .0), omega (arith, c .before .before .before .loop-test .taken), l .inv .2, l .inv .3)
-
-returns-4 : tie.Need-returns-4 Inv-loop μ-loop
+returns-4 : tie.Need-returns-4 Inv-loop μ-loop Inv-loop2 μ-loop2 Inv-loop3 μ-loop3
 returns-4 c =
-    let a = c .before .before .before .before .before .before .before .before .before .before .before .before .before .before .before .before .before .before .before .before .before .before .before in
-    let s = a .args .t1 in
-    let l = c .before .before .before .before .before .before .before .before .before .loop in
-    let n : length (s .channels) ≡ 32 = sym (length-map (s .channels) _) ∙ (a .good .0 .1 .1 .0 .1 .0 .1) in
-    let e = c .before .before .before .before .before .before .before .before .before .before .count-of .ensures .0 ∙ count-is (s .channels) (s .size .channels) n in
-    let cs = channelsOf s in
-    let code = c .before .before .before .before .before .before .before .before .before .before .before .named-in .result in
-    let far : l .end ≤ l .i = c .before .before .before .before .before .before .before .before .loop-test .left in
-    let place : l .i ≡ placeOf code cs = elim (l .inv .3) [
-      | inl a ↦ sought-last code cs (l .i) (omega (arith, e, a, far)) (l .inv .0)
-      | inr a ↦ omega (arith, a, far, l .inv .1)
-    ] in
-    let below : c .before .before .before .before .before .before .before .place-below .result < length (s .channels) = omega (arith, n, c .before .before .before .before .before .before .before .place-below .ensures .1) in
-    finished s (now (a .args .entry)) (now (a .args .buffer)) (c .before .before .before .before .before .before .before .before .before .before .before .before .before .before .before .before .before .before .before .before .read-entry .result) (c .before .before .before .before .before .before .before .before .before .before .before .before .asked-of .result) code (c .before .before .before .before .before .before .before .before .before .before .count-of .result) (l .i) (c .before .before .before .before .before .before .before .place-below .result) _
-    (c .before .before .before .before .before .before .before .before .before .before .before .before .before .before .before .before .before .before .before .before .read-entry .ensures) (c .before .before .before .before .before .before .before .before .before .before .before .before .asked-of .ensures) (c .before .before .before .before .before .before .before .before .before .before .before .named-in .ensures) e place (c .before .before .before .before .before .before .before .place-below .ensures .0) (any-default (s .channels) (c .before .before .before .before .before .before .before .place-below .result) noChannel _ below)
-    (c .before .before .before .before .before .before .before .before .before .before .before .before .before .before .before .before .before .before .if1 .left) (c .before .before .before .before .before .before .before .before .before .before .before .before .before .before .before .before .if2 .left) (c .before .before .before .before .before .before .before .before .before .before .before .before .before .before .if3 .left) (c .before .before .before .before .change-of .ensures)
+    let k = c .before .before .before .before .before .before in
+    gives-as (handover-step (set-at k) (entry-at k) _ (read-at k) (length (buffer-at k)) (c .before .before .if4 .taken))
+    (no-room (set-at k) (onHandover (set-at k)) (buffer-at k) (omega (arith, c .before .space-all .ensures, c .if5 .taken)))
+
+returns-5 : tie.Need-returns-5 Inv-loop μ-loop Inv-loop2 μ-loop2 Inv-loop3 μ-loop3
+unfolding onHandover
+returns-5 c =
+    let k = c .before .before .before .before .before .before .before .before .before .before .before in
+    let s = set-at k in
+    gives-as (handover-step s (entry-at k) _ (read-at k) (length (buffer-at k)) (c .before .before .before .before .before .before .before .if4 .taken))
+    (put s (onHandover s) (buffer-at k) (omega (arith, c .before .before .before .before .before .before .space-all .ensures, c .before .before .before .before .before .if5 .left)) (even-handover s) (c .before .before .before .put-all .ensures) (c .new .ensures))
+
+-- ---- a tick: the space
+
+loop-holds : tie.Need-loop-holds Inv-loop μ-loop Inv-loop2 μ-loop2 Inv-loop3 μ-loop3
+loop-holds c = (scan-first _, omega arith)
+
+add-need : tie.Need-add-need Inv-loop μ-loop Inv-loop2 μ-loop2 Inv-loop3 μ-loop3
+add-need c = omega (arith, c .before .before .before .before .before .before .loop .inv .0 .counted .bound, c .space-in .ensures .1, c .before .before .before .before .before .before .before .before .before .before .before .before .before .count-of .ensures .1, c .before .before .before .before .before .loop-test .taken)
+
+loop-again : tie.Need-loop-again Inv-loop μ-loop Inv-loop2 μ-loop2 Inv-loop3 μ-loop3
+loop-again c =
+    let k = c .before .before .before .before .before .before .before .before .before .before .before in
+    let s = set-at k in
+    let l = c .before .before .before .before .loop in
+    let far : l .k + 1 ≤ k .count-of .result = omega (arith, c .before .before .before .loop-test .taken) in
+    let p = channel-at k (l .k) _ (c .before .before .before .loop-test .taken) in
+    let m = l .inv .0 in
+    let falls = sym (c .before .falls .ensures) in
+    elim (c .match .came) [
+      | inl a ↦ (scan-rest s (l .k) _ p m (falls ∙ a .1 .given .1) (a .2) (a .3), far)
+      | inr d ↦ elim d [
+        | inl a ↦ (scan-silent s (l .k) _ p m _ falls (a .0 .keys2) (a .1) (a .2), far)
+        | inr a ↦ (scan-due s (l .k) _ p m _ (a .2 .ensures) (a .3) (a .4), far)
+      ]
+    ]
+
+total-is : (c : tie.After-loop Inv-loop μ-loop Inv-loop2 μ-loop2 Inv-loop3 μ-loop3) → c .before .loop .need ≡ spaceOf (onTick (set-at (c .before .before .before .before .before .before .before .before)) .sent)
+unfolding onTick
+total-is c =
+    let k = c .before .before .before .before .before .before .before .before in
+    let s = set-at k in
+    sum-last (s .desks) _ (channelsOf s) (c .before .loop .k) (c .before .loop .need) (omega (arith, count-is k, c .loop-test .left)) (c .before .loop .inv .0 .counted)
+
+returns-6 : tie.Need-returns-6 Inv-loop μ-loop Inv-loop2 μ-loop2 Inv-loop3 μ-loop3
+returns-6 c =
+    let k = c .before .before .before .before .before .before .before .before .before in
+    gives-as (tick-step (set-at k) (entry-at k) _ (read-at k) (length (buffer-at k)) (c .before .before .before .if6 .taken))
+    (no-room (set-at k) (onTick (set-at k)) (buffer-at k) (omega (arith, total-is (c .before), c .if7 .taken)))
+
+-- ---- a tick: the records and the channels
+
+loop2-holds : tie.Need-loop2-holds Inv-loop μ-loop Inv-loop2 μ-loop2 Inv-loop3 μ-loop3
+loop2-holds c = (tick-first (set-at (c .before .before .before .before .before .before .before .before .before)) (buffer-at (c .before .before .before .before .before .before .before .before .before)) (omega (arith, total-is (c .before), c .if7 .left)), omega arith, omega (arith, c .before .before .loop .inv .0 .low, c .before .before .loop .inv .1))
+
+turn-at : (c : tie.In-loop2 Inv-loop μ-loop Inv-loop2 μ-loop2 Inv-loop3 μ-loop3) (z : Channel) → At (channelsOf (set-at (c .before .before .before .before .before .before .before .before .before .before .before))) (c .before .loop2 .i) (getD (c .before .loop2 .set .channels) (c .before .loop2 .i) z)
+turn-at c z =
+    let k = c .before .before .before .before .before .before .before .before .before .before .before in
+    let l = c .before .loop2 in
+    here-still (set-at k) (buffer-at k) (l .i) _ (channel-at k (l .i) noChannel (omega (arith, c .loop2-test .taken, l .inv .2))) (l .inv .0) z
+
+put-in-requires : tie.Need-put-in-requires Inv-loop μ-loop Inv-loop2 μ-loop2 Inv-loop3 μ-loop3
+put-in-requires c κs =
+    let k = c .before .before .before .before .before .before .before .before .before .before .before .before .before .before .before .before in
+    let l = c .before .before .before .before .before .before .loop2 in
+    due-fits (set-at k) (buffer-at k) (l .i) _ (turn-at (c .before .before .before .before .before) _) (l .inv .0)
+
+loop2-again : tie.Need-loop2-again Inv-loop μ-loop Inv-loop2 μ-loop2 Inv-loop3 μ-loop3
+unfolding happens
+loop2-again c =
+    let k = c .before .before .before .before .before .before .before .before .before .before .before .before .before .before in
+    let s = set-at k in
+    let b = buffer-at k in
+    let l = c .before .before .before .before .loop2 in
+    let m = l .inv .0 in
+    let far : l .i + 1 ≤ c .before .before .before .before .before .before .before .loop .end = omega (arith, c .before .before .before .loop2-test .taken) in
+    let p = turn-at (c .before .before .before) _ in
+    let falls = sym (c .before .falls2 .ensures) in
+    elim (c .match2 .came) [
+      | inl a ↦ (kept-turn s b (l .i) _ p m (falls ∙ a .1 .given .1) (a .3) (a .2) (a .4), far, l .inv .2)
+      | inr d ↦ elim d [
+        | inl a ↦ (silent-turn s b (l .i) _ p m _ (falls ∙ a .1 .given .1) (inr (inl refl)) (a .5) (a .4) (a .6), far, l .inv .2)
+        | inr d ↦ elim d [
+          | inl a ↦ (silent-turn s b (l .i) _ p m _ (falls ∙ a .1 .given .1) (inr (inr refl)) (a .5) (a .4) (a .6), far, l .inv .2)
+          | inr a ↦ (turned s b (l .i) _ p m _ (a .8) (a .6 .ensures _) (a .9 ∙ a .3 .ensures .0, a .7 ∙ a .3 .ensures .1), far, l .inv .2)
+        ]
+      ]
+    ]
+
+same-length-4 : tie.Need-same-length-4 Inv-loop μ-loop Inv-loop2 μ-loop2 Inv-loop3 μ-loop3
+same-length-4 c = c .before .loop2 .inv .0 .bytes .same
+
+returns-7 : tie.Need-returns-7 Inv-loop μ-loop Inv-loop2 μ-loop2 Inv-loop3 μ-loop3
+returns-7 c =
+    let k = c .before .before .before .before .before .before .before .before .before .before .before in
+    let l = c .before .loop2 in
+    let scan = c .before .before .before .before .loop in
+    gives-as (tick-step (set-at k) (entry-at k) _ (read-at k) (length (buffer-at k)) (c .before .before .before .before .before .if6 .taken))
+    (tick-last (set-at k) (buffer-at k) (l .i) (scan .need) (scan .end) (scan .k) (c .loop2-test .left) (omega (arith, l .inv .1, scan .inv .0 .low)) (omega (arith, count-is k, scan .inv .1, c .before .before .before .loop-test .left)) (scan .inv .0) (l .inv .0))
+
+-- ---- any other entry, by what it asks
+
+abbrev Asking : Type 0
+Asking = tie.After-asked-of Inv-loop μ-loop Inv-loop2 μ-loop2 Inv-loop3 μ-loop3
+
+abbrev begun : Asking → Begun
+begun c = c .before .before .before .before .before .before .before
+
+-- what is asked is what the rows up to 11 give
+asked-is : (c : Asking) (q : Asked) → c .asked-of .result ≡ q → (found : Bool) (d : Channel) → (begun c .before .before .read-entry .result .kind ≡ 7 → ⊥)
+    → q ≡ askedOf (seen (set-at (begun c) .planned) (set-at (begun c) .desks) (set-at (begun c) .size .desks) found d) (entry-at (begun c)) (begun c .before .before .read-entry .result)
+asked-is c q e found d h = sym e ∙ c .asked-of .ensures found d h
+
+not-plan : (c : Asking) → begun c .before .before .read-entry .result .kind ≡ 7 → ⊥
+not-plan c = c .before .before .before .before .before .if1 .left
+
+-- a refusal
+returns-8 : tie.Need-returns-8 Inv-loop μ-loop Inv-loop2 μ-loop2 Inv-loop3 μ-loop3
+returns-8 c =
+    let a = c .before .before .before in
+    let k = begun a in
+    let s = set-at k in
+    gives-as (refused-as (s .planned) (s .desks) (s .size .desks) (s .channels) (s .size .channels) (entry-at k) _ true noChannel _ (length (buffer-at k)) (asked-is a _ (c .before .asked .given .1) true noChannel (not-plan a)) ∙ as-step s (entry-at k) _ (read-at k) (length (buffer-at k)))
+    (left-as-was s _ (buffer-at k))
+
+-- a telegram about the desk's link
+returns-9 : tie.Need-returns-9 Inv-loop μ-loop Inv-loop2 μ-loop2 Inv-loop3 μ-loop3
+returns-9 c =
+    let a = c .before .before .before .before .before .before .before .before in
+    let k = begun a in
+    let s = set-at k in
+    gives-as (linked-as (s .planned) (s .desks) (s .size .desks) (s .channels) (s .size .channels) (entry-at k) _ true noChannel _ (length (buffer-at k)) (asked-is a _ (c .before .before .before .before .before .before .asked2 .given .1) true noChannel (not-plan a)) ∙ as-step s (entry-at k) _ (read-at k) (length (buffer-at k)))
+    (c .before .before .before .link-change .ensures (s .planned) (s .size .desks) (s .channels) (s .size .channels))
+
+-- ---- an entry about a channel: it is sought by its code
+
+abbrev Told : Type 0
+Told = tie.After-known-told5 Inv-loop μ-loop Inv-loop2 μ-loop2 Inv-loop3 μ-loop3
+
+abbrev code-of : Told → ℕ
+code-of c = c .before .asked3 .given .0 .0
+
+loop3-holds : tie.Need-loop3-holds Inv-loop μ-loop Inv-loop2 μ-loop2 Inv-loop3 μ-loop3
+loop3-holds c = (sought-first _ _, omega arith)
+
+loop3-again : tie.Need-loop3-again Inv-loop μ-loop Inv-loop2 μ-loop2 Inv-loop3 μ-loop3
+loop3-again c =
+    let l = c .before .before .before .before .loop3 in
+    let code = code-of (c .before .before .before .before .before) in
+    let k = begun (c .before .before .before .before .before .before .before .before) in
+    let far : l .i + 1 ≤ k .count-of .result = omega (arith, c .before .before .before .loop3-test .taken) in
+    let p = channel-at k (l .i) _ (c .before .before .before .loop3-test .taken) in
+    (sought-next code (channelsOf (set-at k)) (l .i) noChannel (p .within) (ap (λ (x : Channel). eqb (x .code) code) (p .is) ∙ ne-eqb _ _ (c .if8 .left)) (l .inv .0), far)
+
+sought : (c : tie.Left-loop3 Inv-loop μ-loop Inv-loop2 μ-loop2 Inv-loop3 μ-loop3) → c .before .loop3 .i ≡ placeOf (code-of (c .before .before)) (channelsOf (set-at (begun (c .before .before .before .before .before))))
+sought c =
+    let k = begun (c .before .before .before .before .before) in
+    let cs = channelsOf (set-at k) in
+    let l = c .before .loop3 in
+    let code = code-of (c .before .before) in
+    elim (c .loop3-test .came) [
+      | inl a ↦ sought-last code cs (l .i) (omega (arith, count-is k, a .left)) (l .inv .0)
+      | inr a ↦
+          let p = channel-at k (l .i) _ (a .0 .taken) in
+          sought-found code cs (l .i) noChannel (p .within) (ap (λ (x : Channel). eqb (x .code) code) (p .is) ∙ eq-eqb _ _ (a .3 .taken)) (l .inv .0)
+    ]
+
+asked-at : (c : tie.After-place-below Inv-loop μ-loop Inv-loop2 μ-loop2 Inv-loop3 μ-loop3) (z : Channel)
+    → Asks (set-at (begun (c .before .before .before .before .before .before))) (entry-at (begun (c .before .before .before .before .before .before))) (begun (c .before .before .before .before .before .before) .before .before .read-entry .result) (code-of (c .before .before .before)) (c .before .before .before .before .asked3 .given .0 .1 .0) (c .before .before .before .before .asked3 .given .0 .1 .1 .0) (c .place-below .result)
+    (ltb (c .before .before .loop3 .i) (begun (c .before .before .before .before .before .before) .count-of .result)) (getD (set-at (begun (c .before .before .before .before .before .before)) .channels) (c .place-below .result) z)
+asked-at c z =
+    let a = c .before .before .before .before .before .before in
+    let k = begun a in
+    let s = set-at k in
+    let place = c .place-below in
+    asks s (entry-at k) _ (code-of (c .before .before .before)) _ _ _ (c .before .before .loop3 .i) (place .result) _ (read-at k) (asked-is a _ (c .before .before .before .before .asked3 .given .1)) (count-is k) (sought (c .before)) (place .ensures .0)
+    (any-default (s .channels) (place .result) noChannel z (omega (arith, long k, place .ensures .1))) (not-plan a) (a .before .if6 .left) (a .before .before .before .if4 .left)
+
+returns-10 : tie.Need-returns-10 Inv-loop μ-loop Inv-loop2 μ-loop2 Inv-loop3 μ-loop3
+returns-10 c =
+    let place = c .before .before .before .before .before .before .before .before in
+    let k = begun (place .before .before .before .before .before .before) in
+    let s = set-at k in
+    gives-as (as-step s (entry-at k) _ (read-at k) (length (buffer-at k)))
+    (c .before .before .before .before .before .change-of .ensures (code-of (place .before .before .before)) (s .planned) (s .channels) (s .size .channels) (place .place-below .result) (entry-at k) (asked-at place _))
+
+returns-11 : tie.Need-returns-11 Inv-loop μ-loop Inv-loop2 μ-loop2 Inv-loop3 μ-loop3
+returns-11 c =
+    let place = c .before .before .before .before .before .before .before in
+    let k = begun (place .before .before .before .before .before .before) in
+    let s = set-at k in
+    kept s (entry-at k) (buffer-at k) (c .if9 .left)
+    (gives-as (as-step s (entry-at k) _ (read-at k) (length (buffer-at k)))
+    (c .before .before .before .before .change-of .ensures (code-of (place .before .before .before)) (s .planned) (s .channels) (s .size .channels) (place .place-below .result) (entry-at k) (asked-at place _)))
 
 pub step-spec : {M : Type 1} → statement M
 step-spec =
     tie.close
     (tie.spec
-    Inv-loop μ-loop (λ c κs. search needs) sub-plan part-plan-start (λ c. search needs) (λ c κs. search needs)
-    (λ c. search needs) returns (λ c κs. search needs) (λ c. search needs) returns-2 (λ c κs. search needs)
-    (λ c. search needs) returns-3 (λ c κs. search needs) (λ c κs. search needs) (λ c κs. search needs) loop-holds (λ c. search needs)
-    (λ c. search needs) (λ c. search needs) (λ c. search needs) loop-again (λ c. search needs) (λ c. search needs)
-    loop-again-2 (λ c κs. search needs) (λ c. search needs) (λ c. search needs) (λ c κs. search needs)
-    (λ c. search needs) (λ c. search needs) (λ c. search needs) returns-4)
+    Inv-loop μ-loop Inv-loop2 μ-loop2 Inv-loop3 μ-loop3 (λ c κs. search needs) (λ c κs. search needs) sub-plan
+    sub-plan (λ c. search needs) (λ c κs. search needs) (λ c κs. search needs) put-all-requires (λ c κs. search needs)
+    loop-holds (λ c. search needs) (λ c. search needs) (λ c κs. search needs) (λ c. search needs) (λ c. search needs)
+    (λ c. search needs) (λ c κs. search needs) add-need (λ c. search needs) (λ c. search needs) (λ c. search needs)
+    loop-again loop2-holds (λ c. search needs) (λ c. search needs) (λ c κs. search needs) (λ c. search needs)
+    (λ c. search needs) (λ c. search needs) (λ c. search needs) (λ c. search needs) (λ c. search needs)
+    (λ c. search needs) (λ c. search needs) put-in-requires (λ c κs. search needs) (λ c. search needs)
+    (λ c. search needs) (λ c. search needs) (λ c. search needs) loop2-again (λ c κs. search needs) (λ c. search needs)
+    (λ c. search needs) (λ c κs. search needs) (λ c. search needs) loop3-holds (λ c. search needs) (λ c. search needs)
+    (λ c. search needs) (λ c. search needs) (λ c. search needs) loop3-again (λ c κs. search needs) (λ c. search needs)
+    (λ c. search needs) (λ c κs. search needs) (λ c. search needs) (λ c. search needs) returns (λ c. search needs) returns-2
+    (λ c. search needs) returns-3 returns-4 (λ c. search needs) returns-5 returns-6 same-length-4 returns-7 returns-8
+    (λ c. search needs) returns-9 (λ c. search needs) returns-10 (λ c. search needs) returns-11)
