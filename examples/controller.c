@@ -70,6 +70,10 @@ int main(void)
         return EXIT_FAILURE;
     }
     imjauska_new((imjauska_set *)&memory);
+    if (imjauska_is_current(memory.bytes, sizeof memory.bytes) != 1) {
+        fputs("a new set is not of the library's layout\n", stderr);
+        return EXIT_FAILURE;
+    }
     step(1, make(PLAN, plan, sizeof plan));
     step(2, make_telegram(0, capture));
     step(3, make_telegram(0, "DV0030001255041120240229120000"));

@@ -38,12 +38,20 @@ extern "C" {
 /*
  * A set in the caller's memory: imjauska_set_size() bytes at an address that is a multiple of imjauska_set_align(). The
  * memory is initialised before imjauska_new, as static memory and that of calloc is; what it holds does not matter. From
- * then on only the functions below write it. It has no pointers, so that it may be copied as bytes, kept and put back.
+ * then on only the functions below write it.
+ *
+ * Saving: a set is its bytes and nothing else, with no pointers, so that they may be copied, kept and put back, at the same
+ * address or another; what follows is answered as if nothing had happened. Its first four bytes are "IMJ" and the number of
+ * its layout, which imjauska_new writes and imjauska_step leaves; imjauska_is_current tells bytes of this release's layout
+ * from those of another. What it can't tell is who wrote the rest. Bytes that no entry made are some set, and every function
+ * still does what is said of it here; but what is promised over whole feeds, above all that a desk learns no number of a
+ * caller that it was not told of, is promised of sets that came from imjauska_new and imjauska_step alone. So whoever saves a
+ * set keeps it where nobody else writes, or signs it.
  */
 typedef struct imjauska_set imjauska_set;
 
 /* The same two numbers, for a set in static memory. */
-#define IMJAUSKA_SET_SIZE 1076
+#define IMJAUSKA_SET_SIZE 1208
 #define IMJAUSKA_SET_ALIGN 4
 
 /* Why an entry was refused: the numbers of 01, in the order in which they are checked. */
@@ -72,6 +80,12 @@ size_t imjauska_set_size(void);
 
 /* What the address of a set is a multiple of. */
 size_t imjauska_set_align(void);
+
+/*
+ * 1 if the bytes of a set that was saved are of this release's layout: as many as a set has, and beginning as one. 0 if not:
+ * then they are no set for these functions, and a new one is to be made.
+ */
+uint8_t imjauska_is_current(const uint8_t *saved, size_t length);
 
 /* Makes a new set, without a plan, and writes every byte of it. */
 void imjauska_new(imjauska_set *set);

@@ -1,13 +1,13 @@
 -- A set as the numbers that a caller's memory holds: which set they are, and which numbers a set is kept as.
 use Prim.Native.Nat.{ℕ}
-use mathlib.Core.List.{List, map}
-use mathlib.Core.Bool.{Bool, cond}
+use mathlib.Core.List.{List, [], _∷_, map}
+use mathlib.Core.Bool.{Bool, _&&_, cond}
 use mathlib.Core.Path.{_≡_}
 use lib.Dec.{eqb}
-use lib.ListN.{replicate}
+use lib.ListN.{length, getD, replicate}
 use Rattle.telegram.specs.Telegram.{num, over}
-use Rattle.channel.specs.declared.state.Holder.{Holder}
-use Rattle.channel.specs.declared.state.Holder.the-variants.{Nobody, Held}
+use Rattle.channel.specs.declared.state.Party.{Party}
+use Rattle.channel.specs.declared.state.Party.the-variants.{Nobody, By}
 use Rattle.channel.specs.declared.state.Call.{Call}
 use Rattle.channel.specs.declared.state.Call.the-variants.{Closed, Open}
 use Rattle.channel.specs.declared.state.Arrival.{Arrival}
@@ -16,7 +16,7 @@ use Rattle.channel.specs.declared.state.Channel.{Channel}
 use Rattle.set_rules.specs.declared.state.Desk.{Desk}
 use Rattle.set_rules.specs.declared.state.LineSet.{LineSet}
 use Rattle.set_rules.specs.Feeds.{Outcome}
-use Rattle.controller.specs.declared.plain.PlainHolder.{PlainHolder}
+use Rattle.controller.specs.declared.plain.PlainParty.{PlainParty}
 use Rattle.controller.specs.declared.plain.PlainCall.{PlainCall}
 use Rattle.controller.specs.declared.plain.PlainArrival.{PlainArrival}
 use Rattle.controller.specs.declared.plain.PlainChannel.{PlainChannel}
@@ -24,28 +24,37 @@ use Rattle.controller.specs.declared.plain.PlainDesk.{PlainDesk}
 use Rattle.controller.specs.declared.plain.PlainSet.{PlainSet}
 use Rattle.controller.specs.declared.exports.Kept.{Kept}
 
--- ---- the memory of a set, which the compiler lays out by C's rules: channels of 32 bytes, desks of 12, and four
+-- ---- the memory of a set, which the compiler lays out by C's rules: four bytes, channels of 36, desks of 12, and four
 
 abbrev pub setSize : ℕ
-setSize = 1076
+setSize = 1208
 
 abbrev pub setAlign : ℕ
 setAlign = 4
 
--- ---- the set that the numbers are
+-- how it begins: "IMJ", and the number of this layout
+abbrev pub layoutNow : List ℕ
+layoutNow = 73 ∷ 77 ∷ 74 ∷ 1 ∷ []
 
-abbrev pub holderIn : PlainHolder → Holder
-holderIn p = cond (eqb (p .held) 1) (Held (p .desk)) Nobody
+-- bytes as long as a set that begin so
+abbrev pub isCurrent : List ℕ → Bool
+isCurrent b =
+    eqb (length b) setSize && (eqb (getD b 0 0) 73 && (eqb (getD b 1 0) 77 && (eqb (getD b 2 0) 74 && eqb (getD b 3 0) 1)))
+
+-- ---- the set that the numbers are, however they begin
+
+abbrev pub partyIn : PlainParty → Party
+partyIn p = cond (eqb (p .held) 1) (By (p .desk)) Nobody
 
 abbrev pub callIn : PlainCall → Call
-callIn p = cond (eqb (p .opened) 1) (Open (p .kind) (p .direction) (p .base) (num (p .source)) (p .recipients)) Closed
+callIn p = cond (eqb (p .opened) 1) (Open (p .kind) (p .direction) (p .recipients) (p .base) (num (p .source))) Closed
 
 abbrev pub arrivalIn : PlainArrival → Arrival
-arrivalIn p = cond (eqb (p .present) 1) (Present (p .kind) (p .base) (num (p .number)) (p .recipients)) Absent
+arrivalIn p = cond (eqb (p .present) 1) (Present (p .kind) (p .recipients) (p .base) (num (p .number))) Absent
 
 abbrev pub channelIn : PlainChannel → Channel
 channelIn p =
-    record { code = p .code; entitled = p .entitled; holder = holderIn (p .holder); pressed = eqb (p .pressed) 1; call = callIn (p .call); arrival = arrivalIn (p .arrival); quiet = p .quiet; release = p .release }
+    record { code = p .code; entitled = p .entitled; holder = partyIn (p .holder); presser = partyIn (p .presser); quiet = p .quiet; release = p .release; call = callIn (p .call); arrival = arrivalIn (p .arrival) }
 
 abbrev pub deskIn : PlainDesk → Desk
 deskIn p = record { code = p .code; number = num (p .number); link = record { phase = p .phase } }
@@ -59,34 +68,34 @@ setIn p =
 abbrev pub flagOf : Bool → ℕ
 flagOf b = cond b 1 0
 
-abbrev pub holderOf : Holder → PlainHolder
-holderOf Nobody = record { held = 0; desk = 0 }
-holderOf (Held d) = record { held = 1; desk = d }
+abbrev pub partyOf : Party → PlainParty
+partyOf Nobody = record { held = 0; desk = 0 }
+partyOf (By d) = record { held = 1; desk = d }
 
 abbrev pub callOf : Call → PlainCall
 callOf Closed = record { source = 0; base = 0; opened = 0; kind = 0; direction = 0; recipients = 0; spare = 0 }
-callOf (Open kind direction base source recipients) =
+callOf (Open kind direction recipients base source) =
     record { source = source .digits; base = base; opened = 1; kind = kind; direction = direction; recipients = recipients; spare = 0 }
 
 abbrev pub arrivalOf : Arrival → PlainArrival
 arrivalOf Absent = record { number = 0; base = 0; present = 0; kind = 0; recipients = 0; spare = replicate 3 0 }
-arrivalOf (Present kind base number recipients) =
+arrivalOf (Present kind recipients base number) =
     record { number = number .digits; base = base; present = 1; kind = kind; recipients = recipients; spare = replicate 3 0 }
 
 abbrev pub channelOf : Channel → PlainChannel
 channelOf c =
-    record { call = callOf (c .call); arrival = arrivalOf (c .arrival); holder = holderOf (c .holder); code = c .code; entitled = c .entitled; pressed = flagOf (c .pressed); quiet = c .quiet; release = c .release; spare = 0 }
+    record { call = callOf (c .call); arrival = arrivalOf (c .arrival); holder = partyOf (c .holder); presser = partyOf (c .presser); code = c .code; entitled = c .entitled; quiet = c .quiet; release = c .release; spare = replicate 4 0 }
 
 abbrev pub deskOf : Desk → PlainDesk
 deskOf d = record { code = d .code; number = d .number .digits; phase = d .link .phase; spare = replicate 3 0 }
 
-abbrev pub plainOf : LineSet → PlainSet
-plainOf s =
-    record { channels = map channelOf (s .channels); desks = map deskOf (s .desks); size = record { desks = s .size .desks; channels = s .size .channels }; planned = flagOf (s .planned); spare = 0 }
+abbrev pub plainOf : List ℕ → LineSet → PlainSet
+plainOf layout s =
+    record { layout = layout; channels = map channelOf (s .channels); desks = map deskOf (s .desks); size = record { desks = s .size .desks; channels = s .size .channels }; planned = flagOf (s .planned); spare = 0 }
 
--- the numbers after an entry; "each refusal .. leaves set and buffer untouched", whatever the numbers are
+-- the numbers after an entry, which leaves how they begin; "each refusal .. leaves set and buffer untouched", whatever they are
 abbrev pub plainAfter : PlainSet → Outcome → PlainSet
-plainAfter p o = cond (eqb (o .refusal) 0) (plainOf (o .after)) p
+plainAfter p o = cond (eqb (o .refusal) 0) (plainOf (p .layout) (o .after)) p
 
 -- the answer to an entry, with the set as numbers
 abbrev pub keptOf : PlainSet → Outcome → Kept

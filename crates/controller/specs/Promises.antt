@@ -10,7 +10,7 @@ use Rattle.controller.specs.declared.plain.PlainSet.{PlainSet}
 -- 1. The numbers that a set is kept as are that set: what holds of sets over whole feeds holds of those in memory
 -- (`Returns.returns`).
 abbrev pub Returns : Type 0
-Returns = (s : LineSet) → setIn (plainOf s) ≡ s
+Returns = (layout : List ℕ) (s : LineSet) → setIn (plainOf layout s) ≡ s
 
 -- 2. A refused entry leaves every number, whatever the numbers are (`Returns.untouched`).
 abbrev pub Untouched : Type 0
@@ -19,4 +19,6 @@ Untouched =
 
 -- 3. After an entry the numbers are the set after it, where they were a set's before (`Returns.stepped`).
 abbrev pub Stepped : Type 0
-Stepped = (s : LineSet) (e : List ℕ) (room : ℕ) → plainAfter (plainOf s) (stepOf (setIn (plainOf s)) e room) ≡ plainOf (stepOf s e room .after)
+Stepped =
+    (layout : List ℕ) (s : LineSet) (e : List ℕ) (room : ℕ)
+    → plainAfter (plainOf layout s) (stepOf (setIn (plainOf layout s)) e room) ≡ plainOf layout (stepOf s e room .after)

@@ -3,13 +3,13 @@ use super::plain::PlainArrival;
 use super::plain::PlainCall;
 use super::plain::PlainChannel;
 use super::plain::PlainDesk;
-use super::plain::PlainHolder;
+use super::plain::PlainParty;
 use super::plain::PlainSet;
 use super::plain::PlainSize;
 use channel::Arrival;
 use channel::Call;
 use channel::Channel;
-use channel::Holder;
+use channel::Party;
 use set_rules::Desk;
 use set_rules::LineSet;
 use set_rules::Link;
@@ -18,15 +18,15 @@ use telegram::Number;
 ghost use mathlib.Core.Path.{_≡_};
 ghost use mathlib.Core.Bool.{cond};
 ghost use mathlib.Core.List.{map};
-ghost use Rattle.controller.specs.Plain.{holderIn, callIn, arrivalIn, channelIn, deskIn, setIn, holderOf, callOf, arrivalOf, channelOf, deskOf, plainOf};
+ghost use Rattle.controller.specs.Plain.{partyIn, callIn, arrivalIn, channelIn, deskIn, setIn, partyOf, callOf, arrivalOf, channelOf, deskOf, plainOf};
 
-fn holder_in(p: PlainHolder) -> Holder
-    ensures { λ r. ⌜ r ≡ holderIn p ⌝ }
+fn party_in(p: PlainParty) -> Party
+    ensures { λ r. ⌜ r ≡ partyIn p ⌝ }
 {
     if p.held == 1 {
-        Holder::Held(p.desk)
+        Party::By(p.desk)
     } else {
-        Holder::Nobody
+        Party::Nobody
     }
 }
 
@@ -38,9 +38,9 @@ fn call_in(p: PlainCall) -> Call
         Call::Open {
             kind: p.kind,
             direction: p.direction,
+            recipients: p.recipients,
             base: p.base,
             source,
-            recipients: p.recipients,
         }
     } else {
         Call::Closed
@@ -54,9 +54,9 @@ fn arrival_in(p: PlainArrival) -> Arrival
         let number = Number::new(p.number);
         Arrival::Present {
             kind: p.kind,
+            recipients: p.recipients,
             base: p.base,
             number,
-            recipients: p.recipients,
         }
     } else {
         Arrival::Absent
@@ -67,20 +67,22 @@ fn channel_in(p: PlainChannel) -> Channel
     ensures { λ r. ⌜ r ≡ channelIn p ⌝ }
 {
     let h = p.holder;
+    let t = p.presser;
     let c = p.call;
     let a = p.arrival;
-    let holder = holder_in(h);
+    let holder = party_in(h);
+    let presser = party_in(t);
     let call = call_in(c);
     let arrival = arrival_in(a);
     Channel {
         code: p.code,
         entitled: p.entitled,
         holder,
-        pressed: p.pressed == 1,
-        call,
-        arrival,
+        presser,
         quiet: p.quiet,
         release: p.release,
+        call,
+        arrival,
     }
 }
 
@@ -151,12 +153,12 @@ fn flag(b: bool) -> u8
     if b { 1 } else { 0 }
 }
 
-fn holder_of(holder: Holder) -> PlainHolder
-    ensures { λ r. ⌜ r ≡ holderOf holder ⌝ }
+fn party_of(party: Party) -> PlainParty
+    ensures { λ r. ⌜ r ≡ partyOf party ⌝ }
 {
-    match holder {
-        Holder::Nobody => PlainHolder { held: 0, desk: 0 },
-        Holder::Held(desk) => PlainHolder { held: 1, desk },
+    match party {
+        Party::Nobody => PlainParty { held: 0, desk: 0 },
+        Party::By(desk) => PlainParty { held: 1, desk },
     }
 }
 
@@ -176,9 +178,9 @@ fn call_of(call: Call) -> PlainCall
         Call::Open {
             kind,
             direction,
+            recipients,
             base,
             source,
-            recipients,
         } => PlainCall {
             source: source.digits,
             base,
@@ -206,9 +208,9 @@ fn arrival_of(arrival: Arrival) -> PlainArrival
         },
         Arrival::Present {
             kind,
+            recipients,
             base,
             number,
-            recipients,
         } => PlainArrival {
             number: number.digits,
             base,
@@ -223,22 +225,25 @@ fn arrival_of(arrival: Arrival) -> PlainArrival
 fn channel_of(c: Channel) -> PlainChannel
     ensures { λ r. ⌜ r ≡ channelOf c ⌝ }
 {
+    let spare = [0; 4];
     let h = c.holder;
+    let t = c.presser;
     let k = c.call;
     let a = c.arrival;
-    let holder = holder_of(h);
+    let holder = party_of(h);
+    let presser = party_of(t);
     let call = call_of(k);
     let arrival = arrival_of(a);
     PlainChannel {
         call,
         arrival,
         holder,
+        presser,
         code: c.code,
         entitled: c.entitled,
-        pressed: flag(c.pressed),
         quiet: c.quiet,
         release: c.release,
-        spare: 0,
+        spare,
     }
 }
 
@@ -286,15 +291,16 @@ fn desks_of(desks: [Desk; 4]) -> [PlainDesk; 4]
     plain
 }
 
-// The numbers that a set is kept as.
-pub fn plain_of(set: LineSet) -> PlainSet
-    ensures { λ r. ⌜ r ≡ plainOf set ⌝ }
+// The numbers that a set is kept as, in memory that begins so.
+pub fn plain_of(layout: [u8; 4], set: LineSet) -> PlainSet
+    ensures { λ r. ⌜ r ≡ plainOf layout set ⌝ }
 {
     let set_channels = set.channels;
     let channels = channels_of(set_channels);
     let set_desks = set.desks;
     let desks = desks_of(set_desks);
     PlainSet {
+        layout,
         channels,
         desks,
         size: PlainSize {

@@ -7,7 +7,7 @@ ghost use mathlib.Core.Path.{_≡_};
 ghost use lib.ListN.{length};
 ghost use Rattle.set_rules.specs.State.{newSet};
 ghost use Rattle.set_rules.specs.Feeds.{stepOf};
-ghost use Rattle.controller.specs.Plain.{setIn, plainOf, setSize, setAlign, Keeps, KeepsIn};
+ghost use Rattle.controller.specs.Plain.{setIn, plainOf, setSize, setAlign, layoutNow, isCurrent, flagOf, Keeps, KeepsIn};
 
 // The answer to an entry, with the set as numbers.
 pub struct Kept {
@@ -16,14 +16,18 @@ pub struct Kept {
     pub refusal: u8,
 }
 
+// How the memory of a set begins: the last byte is the number of the layout. A release that lays a set out otherwise has
+// another.
+const LAYOUT: [u8; 4] = [b'I', b'M', b'J', 1];
+
 fn new_plain() -> PlainSet
-    ensures { λ r. ⌜ r ≡ plainOf newSet ⌝ }
+    ensures { λ r. ⌜ r ≡ plainOf layoutNow newSet ⌝ }
 {
     let set = LineSet::new();
-    convert::plain_of(set)
+    convert::plain_of(LAYOUT, set)
 }
 
-// A refused entry leaves every number as it is, even of a set that nobody made.
+// A refused entry leaves every number as it is, even of a set that nobody made, and no entry changes how the memory begins.
 fn step_plain(plain: PlainSet, entry: &[u8], buffer: &mut [u8]) -> Kept
     ensures { λ r. ⌜ Keeps plain (stepOf (setIn plain) (now (entry .entry)) (length (now (buffer .entry)))) r (now (buffer .entry)) (now (buffer .exit)) ⌝ }
 {
@@ -37,7 +41,8 @@ fn step_plain(plain: PlainSet, entry: &[u8], buffer: &mut [u8]) -> Kept
         };
     }
     let next = a.set;
-    let after = convert::plain_of(next);
+    let layout = plain.layout;
+    let after = convert::plain_of(layout, next);
     Kept {
         set: after,
         count: a.count,
@@ -50,7 +55,7 @@ fn step_plain(plain: PlainSet, entry: &[u8], buffer: &mut [u8]) -> Kept
 pub extern "C" fn imjauska_set_size() -> usize
     ensures { λ r. ⌜ r ≡ setSize ⌝ }
 {
-    1076
+    1208
 }
 
 // What the address of a set is a multiple of.
@@ -61,10 +66,31 @@ pub extern "C" fn imjauska_set_align() -> usize
     4
 }
 
+// Whether bytes that were saved are as long as a set and begin as one of this layout: 1 if so. It says nothing of who wrote
+// them.
+#[no_mangle]
+pub extern "C" fn imjauska_is_current(saved: &[u8]) -> u8
+    ensures { λ r. ⌜ r ≡ flagOf (isCurrent (now (saved .entry))) ⌝ }
+{
+    if saved.len() != 1208 {
+        return 0;
+    }
+    if saved[0] != b'I' {
+        return 0;
+    }
+    if saved[1] != b'M' {
+        return 0;
+    }
+    if saved[2] != b'J' {
+        return 0;
+    }
+    if saved[3] == 1 { 1 } else { 0 }
+}
+
 // Makes a new set, without a plan, in the caller's memory.
 #[no_mangle]
 pub extern "C" fn imjauska_new(set: &mut PlainSet)
-    ensures { λ _. ⌜ now (set .exit) ≡ plainOf newSet ⌝ }
+    ensures { λ _. ⌜ now (set .exit) ≡ plainOf layoutNow newSet ⌝ }
 {
     *set = new_plain();
 }

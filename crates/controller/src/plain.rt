@@ -1,9 +1,10 @@
 // A set as numbers, for a caller's memory: an exported function may not see an enum. Any bytes are such a set. A flag is 1
-// for true; `spare` is 0 and fills a gap, so that a set has no byte of which nothing is said.
+// for true; `spare` is 0 and fills a gap, so that a set has no byte of which nothing is said. A channel's gap and the set's
+// are for what later releases keep of them, so that the size of a set stays.
 
-// The desk that has captured the channel, if `held` is 1.
+// A desk, if `held` is 1.
 #[repr(C)]
-pub struct PlainHolder {
+pub struct PlainParty {
     pub held: u8,
     pub desk: u8,
 }
@@ -35,13 +36,13 @@ pub struct PlainArrival {
 pub struct PlainChannel {
     pub call: PlainCall,
     pub arrival: PlainArrival,
-    pub holder: PlainHolder,
+    pub holder: PlainParty,
+    pub presser: PlainParty,
     pub code: u8,
     pub entitled: u8,
-    pub pressed: u8,
     pub quiet: u8,
     pub release: u8,
-    pub spare: u8,
+    pub spare: [u8; 4],
 }
 
 #[repr(C)]
@@ -59,8 +60,10 @@ pub struct PlainSize {
     pub channels: u8,
 }
 
+// `layout` is "IMJ" and the number of the layout: it comes first, so that memory that was saved tells what it is.
 #[repr(C)]
 pub struct PlainSet {
+    pub layout: [u8; 4],
     pub channels: [PlainChannel; 32],
     pub desks: [PlainDesk; 4],
     pub size: PlainSize,

@@ -11,6 +11,7 @@ struct Set {
 extern "C" {
     fn imjauska_set_size() -> usize;
     fn imjauska_set_align() -> usize;
+    fn imjauska_is_current(saved: *const u8, length: usize) -> u8;
     fn imjauska_new(set: *mut Set);
     fn imjauska_step(
         set: *mut Set,
@@ -31,6 +32,10 @@ pub fn set_size() -> usize {
 
 pub fn set_align() -> usize {
     unsafe { imjauska_set_align() }
+}
+
+pub fn is_current(saved: &[u8]) -> u8 {
+    unsafe { imjauska_is_current(saved.as_ptr(), saved.len()) }
 }
 
 /// A new set in memory that held `before` throughout.

@@ -15,6 +15,7 @@ fn main() -> ExitCode {
     let mut groups = vec![
         ("layout".to_string(), places::layout()),
         ("null pointers".to_string(), places::null_pointers()),
+        ("saved sets".to_string(), places::saved_sets()),
     ];
     let all_shapes = std::iter::once(None).chain(shapes::NAMES.into_iter().map(Some));
     for shape in all_shapes {

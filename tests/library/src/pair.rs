@@ -42,6 +42,11 @@ impl Pair {
             .count
     }
 
+    /// The bytes of the library's set.
+    pub fn saved(&self) -> &[u8] {
+        self.library.bytes()
+    }
+
     /// The library's set goes on in other memory.
     pub fn move_set(&mut self) {
         self.library = Lent::new(self.library.bytes());

@@ -57,6 +57,57 @@ pub fn null_pointers() -> Verdict {
     Ok("NULL with length 0 is an empty entry, or no buffer".into())
 }
 
+/// What include/imjauska.h says of saving: how a set begins, which bytes are of
+/// this layout, and that no entry changes how a set begins.
+pub fn saved_sets() -> Verdict {
+    let new = library::new_set(0xff);
+    if !new.bytes().starts_with(b"IMJ\x01") {
+        return Err(format!("a new set begins with {:?}", &new.bytes()[..4]));
+    }
+    let mut pair = Pair::new();
+    for entry in feeds::generated(9, 1_000) {
+        pair.step(&entry, LARGEST)?;
+        if library::is_current(pair.saved()) != 1 {
+            return Err("a set that was stepped is not current".into());
+        }
+    }
+    for (name, saved) in not_current(new.bytes()) {
+        if library::is_current(&saved) != 0 {
+            return Err(format!("{name} is current"));
+        }
+    }
+    let mut foreign = Lent::new(new.bytes());
+    foreign.bytes_mut()[3] = 9;
+    let mut buffer = vec![0; LARGEST];
+    let accepted = feeds::generated(9, 1_000)
+        .iter()
+        .filter_map(|entry| library::step(&mut foreign, entry, &mut buffer))
+        .filter(|reply| reply.refusal == 0)
+        .count();
+    if accepted == 0 || !foreign.bytes().starts_with(b"IMJ\x09") {
+        return Err("an entry changed how a set begins".into());
+    }
+    Ok("a set stays current, and nothing else becomes so".into())
+}
+
+/// Bytes near those of a set, none of which are one of this layout.
+fn not_current(set: &[u8]) -> Vec<(String, Vec<u8>)> {
+    let longer = [set, &[0]].concat();
+    let mut saved = vec![
+        ("nothing".to_string(), Vec::new()),
+        ("a set without its last byte".into(), set[..set.len() - 1].into()),
+        ("a set with a byte more".into(), longer),
+    ];
+    for place in 0..4 {
+        for other in (0..=255).filter(|&byte| byte != set[place]) {
+            let mut bytes = set.to_vec();
+            bytes[place] = other;
+            saved.push((format!("a set with {other} at place {place}"), bytes));
+        }
+    }
+    saved
+}
+
 /// Entries of random bytes, with a good start or none, up to past the longest.
 pub fn random_entries() -> Verdict {
     let mut random = Random::new(47);

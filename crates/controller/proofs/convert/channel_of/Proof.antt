@@ -6,7 +6,7 @@ use Rattle.controller.proofs.convert.channel_of.Statement.{statement}
 use Rattle.controller.proofs.convert.channel_of.Tie as tie
 
 returns : tie.Need-returns
-returns c = simp (c .flag .ensures, c .before .arrival-of .ensures, c .before .before .call-of .ensures, c .before .before .before .holder-of .ensures) refl
+returns c = simp (c .arrival-of .ensures, c .before .call-of .ensures, c .before .before .party-of2 .ensures, c .before .before .before .party-of .ensures) refl
 
 pub channel-of-spec : {M : Type 1} → statement M
 channel-of-spec =

@@ -37,7 +37,7 @@ use denote.Triple.Clauses.{ensured, lasts}
 use denote.Triple.Table.{entered, cited}
 use denote.Triple.Walked.{says, Stays, stay-ref, walkOf, AllGo, goes-ref, Walks, ends-at, walked, walk-meets}
 use Rattle.set_rules.specs.State.{newSet}
-use Rattle.controller.specs.Plain.{plainOf}
+use Rattle.controller.specs.Plain.{plainOf, layoutNow}
 use Rattle.controller.specs.declared.plain.PlainSet.{PlainSet}
 use Rattle.controller.proofs.plain.PlainSet as T
 use Rattle.controller.proofs.plain.PlainSet.Laws as T′
@@ -76,7 +76,7 @@ module _ {M : Type 1} (𝓤 : URA M) (H : Heap 𝓤) (A : Atoms 𝓤) (W : Given
   abbrev Post : Val → SProp 𝓤
   Post = walkOf 𝓤 H A f.ended stayed (f.clauses 𝓤 H A at-mem run) .post (((κ, tt), (q, tt), tt, x, at), tt)
 
-  exits : (r : PlainSet) → r ≡ plainOf newSet → ent 𝓤 (⋆ 𝓤 H A (‵ (fobs γ (T.the-row .coded .code r)) ∷ ‵ (fbor κ (Body (mem T.the-row) b o γ)) ∷ ‵ (flft κ q) ∷ [])) (Post vunit)
+  exits : (r : PlainSet) → r ≡ plainOf layoutNow newSet → ent 𝓤 (⋆ 𝓤 H A (‵ (fobs γ (T.the-row .coded .code r)) ∷ ‵ (fbor κ (Body (mem T.the-row) b o γ)) ∷ ‵ (flft κ q) ∷ [])) (Post vunit)
   exits r s =
       qed W (‵ (fobs γ (T.the-row .coded .code r)) ∷ ‵ (fbor κ (Body (mem T.the-row) b o γ)) ∷ ‵ (flft κ q) ∷ []) ∵
       suffices ! _ (ends-at 𝓤 H A f.ended stayed (f.clauses 𝓤 H A at-mem run) W (((κ, tt), (q, tt), tt, x, at), tt) vunit tt (r, tt) (tt, tt)) $ says ! s $ nothing ! $ move ! (3 ∷ 0 ∷ []) $ join ! $
@@ -93,8 +93,8 @@ module _ {M : Type 1} (𝓤 : URA M) (H : Heap 𝓤) (A : Atoms 𝓤) (W : Given
         nothing ! $ nothing ! $ join ! $ use1 W (raw (New 𝓤 H A at-mem run .pre ((tt, tt, tt, tt, tt), tt))) (∗emp 𝓤 _) $
         calls-at ! fm (New 𝓤 H A at-mem run) known ((tt, tt, tt, tt, tt), tt) (no-more !) (λ v.
         use1 W (later (some (λ (r : PlainSet). (‵ ftrue ⊛ ‵ (T.the-row .own r (v ∷ []))) ⊛ raw (ensured 𝓤 H A new.ended (new.clauses 𝓤 H A at-mem run) tt tt tt r)))) (id⊢ 𝓤 _) $ await ! tt $ pick ! (λ r.
-        split ! $ move ! (1 ∷ []) $ use1 W (some (λ (zs : Unit {0}). ‵ (lasts new.ended tt tt zs) ⊛ raw (fact 𝓤 (r ≡ plainOf newSet)))) (id⊢ 𝓤 _) $ pick ! (λ zs.
-        split ! $ move ! (1 ∷ []) $ heard ! (r ≡ plainOf newSet) (λ s. drop ! $ split ! $ drop ! $ peeks ! T.the-row (Is T.the-row) (shows 𝓤 H A T.the-row) r (v ∷ []) (λ is.
+        split ! $ move ! (1 ∷ []) $ use1 W (some (λ (zs : Unit {0}). ‵ (lasts new.ended tt tt zs) ⊛ raw (fact 𝓤 (r ≡ plainOf layoutNow newSet)))) (id⊢ 𝓤 _) $ pick ! (λ zs.
+        split ! $ move ! (1 ∷ []) $ heard ! (r ≡ plainOf layoutNow newSet) (λ s. drop ! $ split ! $ drop ! $ peeks ! T.the-row (Is T.the-row) (shows 𝓤 H A T.the-row) r (v ∷ []) (λ is.
         land ! (from ! (stop !)) (init ! 1 refl (LL.lawful T.the-type T′.the-laws 𝓤 H A W .typed r _ is .0)) $ rewrite ! 1 (λ (u : Val). ‵ (fat fullShare T′.mir l₂ 0 u)) (ap only (LL.tells T.the-type T′.the-laws r _ is)) refl $ drop ! $
         -- the borrow is opened
         move ! (7 ∷ []) $ fsplit ! $ fsplit3 ! $ drop ! $ move ! (9 ∷ []) $ split ! $ move ! (2 ∷ 3 ∷ 0 ∷ []) $

@@ -18,7 +18,7 @@ use Rattle.controller.proofs.exports.step_plain.Statement.{statement}
 use Rattle.controller.proofs.exports.step_plain.Tie as tie
 
 abbrev kept : PlainSet → Answer → Kept
-kept p a = record { set = cond (eqb (a .refusal) 0) (plainOf (a .set)) p; count = a .count; refusal = a .refusal }
+kept p a = record { set = cond (eqb (a .refusal) 0) (plainOf (p .layout) (a .set)) p; count = a .count; refusal = a .refusal }
 
 returns : tie.Need-returns
 returns c =
@@ -29,22 +29,22 @@ returns c =
     let a = c .before .before .before .before .step .result in
     let f = c .before .before .before .before .step .ensures in
     let i = c .before .before .before .before .before .before .set-in .ensures in (
-      ap (λ (t : Bool). record { set = cond t (plainOf (a .set)) p; count = a .count; refusal = a .refusal }) (sym (ne-eqb (a .refusal) 0 (c .if1 .taken)))
+      ap (λ (t : Bool). record { set = cond t (plainOf (p .layout) (a .set)) p; count = a .count; refusal = a .refusal }) (sym (ne-eqb (a .refusal) 0 (c .if1 .taken)))
           ∙ ap (kept p) (f .answer ∙ ap (λ (s : LineSet). answerOf (stepOf s e (length b))) i),
       f .bytes ∙ ap (λ (s : LineSet). over (stepOf s e (length b) .bytes) b) i,
     )
 
 returns-2 : tie.Need-returns-2
 returns-2 c =
-    let st = c .before .before .before .before .before .before .before .before .before .before .before in
+    let st = c .before .before .before .before .before .before .before .before .before .before .before .before in
     let p = st .args .plain in
     let e = now (st .args .entry) in
     let b = now (st .args .buffer) in
-    let a = c .before .before .before .before .before .before .step .result in
-    let f = c .before .before .before .before .before .before .step .ensures in
-    let i = c .before .before .before .before .before .before .before .before .set-in .ensures in (
+    let a = c .before .before .before .before .before .before .before .step .result in
+    let f = c .before .before .before .before .before .before .before .step .ensures in
+    let i = c .before .before .before .before .before .before .before .before .before .set-in .ensures in (
       ap (λ (q : PlainSet). record { set = q; count = a .count; refusal = a .refusal }) (c .plain-of .ensures)
-          ∙ (ap (λ (t : Bool). record { set = cond t (plainOf (a .set)) p; count = a .count; refusal = a .refusal }) (sym (eq-eqb (a .refusal) 0 (c .before .before .if1 .left)))
+          ∙ (ap (λ (t : Bool). record { set = cond t (plainOf (p .layout) (a .set)) p; count = a .count; refusal = a .refusal }) (sym (eq-eqb (a .refusal) 0 (c .before .before .before .if1 .left)))
           ∙ ap (kept p) (f .answer ∙ ap (λ (s : LineSet). answerOf (stepOf s e (length b))) i)),
       f .bytes ∙ ap (λ (s : LineSet). over (stepOf s e (length b) .bytes) b) i,
     )
