@@ -4,13 +4,13 @@
  * for x86-64. Of C it needs memcpy and memmove alone: no allocation, no system call, no global state.
  *
  * Every function is proved to do what is said of it here (the two sizes are numbers that a test holds to the compiler's
- * layout), for
+ * layout, as it does the four bytes that a set begins with), for
  *   - an entry of any bytes and any length, 0 included,
  *   - a buffer of any length, 0 included, whatever it held,
  *   - a set of any contents.
  * It always returns, and reads and writes nothing but what the caller lends. The caller owes what no function can see:
- *   - the pointers lead to memory of the lengths given, which the caller may use, and which does not overlap; an entry or a
- *     buffer of length 0 may be NULL, the set and the count may not,
+ *   - the pointers lead to memory of the lengths given, which the caller may use, and which does not overlap; an entry, a
+ *     buffer or saved bytes of length 0 may be NULL, the set and the count may not,
  *   - while a function runs nobody else uses what it was lent: not two threads at once on one set (two sets are apart),
  *   - 64 KiB of stack (tested, not proved).
  *
