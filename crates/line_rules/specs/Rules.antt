@@ -81,9 +81,9 @@ withArrival a c =
 -- ---- choices by what the channel has
 
 -- a desk or none, as a set
-abbrev pub setOf : Party → ℕ
-setOf Nobody = 0
-setOf (By d) = only d
+abbrev pub partySet : Party → ℕ
+partySet Nobody = 0
+partySet (By d) = only d
 
 abbrev pub isPressed : Channel → Bool
 isPressed c = isHeld (c .presser)

@@ -5,7 +5,7 @@ use mathlib.Core.List.{List, [], _∷_, _++_, append-assoc, append-nil}
 use mathlib.Core.Bool.{Bool, true, false, cond}
 use mathlib.Core.Path.{_≡_, refl}
 use lib.Dec.{eqb}
-use Rattle.line_rules.specs.Rules.{to, sentIf, setOf, kindOf, pressOffSends}
+use Rattle.line_rules.specs.Rules.{to, sentIf, partySet, kindOf, pressOffSends}
 use Rattle.sends.specs.Scripts.{heard}
 use Rattle.channel.specs.declared.state.Party.{Party}
 use Rattle.channel.specs.declared.state.Party.the-variants.{Nobody, By}
@@ -52,6 +52,6 @@ heard-sentIf false m n = refl
 
 -- what ends a press is heard like what is sent to who presses, as a set
 pub heard-press-off : (p : Party) (k : Call)
-    → heard (pressOffSends p k) ≡ heardOf (to (setOf p) (PressAnswer 0)) ++ heardOf (to (setOf p) (PressNotice (kindOf k) 0))
+    → heard (pressOffSends p k) ≡ heardOf (to (partySet p) (PressAnswer 0)) ++ heardOf (to (partySet p) (PressNotice (kindOf k) 0))
 heard-press-off Nobody k = simp send-by-send refl
 heard-press-off (By d) k = simp send-by-send refl

@@ -4,7 +4,7 @@ use channel::Party;
 use channel::only;
 ghost use mathlib.Core.Path.{_≡_};
 ghost use mathlib.Core.Bool.{cond};
-ghost use Rattle.line_rules.specs.Rules.{setOf, isOpen, kindOf};
+ghost use Rattle.line_rules.specs.Rules.{partySet, isOpen, kindOf};
 
 // The type of every call (01: "Type is always 1").
 pub const GENERAL: u8 = 1;
@@ -23,7 +23,7 @@ pub fn is_open(call: Call) -> bool
 
 // A desk or none, as a set.
 pub fn set_of(party: Party) -> u8
-    ensures { λ r. ⌜ r ≡ setOf party ⌝ }
+    ensures { λ r. ⌜ r ≡ partySet party ⌝ }
 {
     match party {
         Party::Nobody => NOBODY,
