@@ -25,7 +25,7 @@ fn main() {
         }
         let from = at.from;
         let to = at.to;
-        let reply = line_set::step_in(&mut set, &input[from..to], &mut records);
+        let reply = lent_set::step_in(&mut set, &input[from..to], &mut records);
         at = writing::show(at, reply, &records, &mut text);
         if !at.going {
             break;

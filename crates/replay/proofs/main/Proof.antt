@@ -58,10 +58,10 @@ use Rattle.replay.proofs.reading.next_entry as nxt
 use Rattle.replay.proofs.reading.next_entry.Symbol as nxt-def
 use Rattle.replay.proofs.reading.next_entry.Symbol.{name as #next-entry}
 use Rattle.replay.proofs.reading.next_entry.Met as nxt-thm
-use Rattle.line_set.proofs.step_in as stp
-use Rattle.line_set.proofs.step_in.Symbol as stp-def
-use Rattle.line_set.proofs.step_in.Symbol.{name as #step-in}
-use Rattle.line_set.proofs.step_in.Met as stp-thm
+use Rattle.lent_set.proofs.step_in as stp
+use Rattle.lent_set.proofs.step_in.Symbol as stp-def
+use Rattle.lent_set.proofs.step_in.Symbol.{name as #step-in}
+use Rattle.lent_set.proofs.step_in.Met as stp-thm
 use Rattle.replay.proofs.writing.show as shw
 use Rattle.replay.proofs.writing.show.Symbol as shw-def
 use Rattle.replay.proofs.writing.show.Symbol.{name as #show}
@@ -569,7 +569,7 @@ main-spec 𝓤 H 𝓜 𝓖 𝓡 =
     (tables 𝓤 H 𝓜 𝓡 code.env .C) (tables 𝓤 H 𝓜 𝓡 code.env .Λ) #main code.function (code.unfolded 𝓤 H 𝓜 𝓡)
     (main-meets 𝓤 H (𝓖 .A) (givenOf 𝓤 H 𝓜 𝓖) (𝓜 .mem) (𝓡 .run) (tablesOf 𝓤 H 𝓜 (tables 𝓤 H 𝓜 𝓡 code.env))
     (cited 𝓤 H (Next 𝓤 H (𝓖 .A) (𝓜 .mem) (𝓡 .run)) 𝓜 𝓡 code.env #next-entry nxt-def.routine code.calls-replay·reading·next-entry (nxt-thm.met 𝓤 H 𝓜 𝓖 𝓡))
-    (cited 𝓤 H (Step 𝓤 H (𝓖 .A) (𝓜 .mem) (𝓡 .run)) 𝓜 𝓡 code.env #step-in stp-def.routine code.calls-line-set·step-in (stp-thm.met 𝓤 H 𝓜 𝓖 𝓡))
+    (cited 𝓤 H (Step 𝓤 H (𝓖 .A) (𝓜 .mem) (𝓡 .run)) 𝓜 𝓡 code.env #step-in stp-def.routine code.calls-lent-set·step-in (stp-thm.met 𝓤 H 𝓜 𝓖 𝓡))
     (cited 𝓤 H (Show 𝓤 H (𝓖 .A) (𝓜 .mem) (𝓡 .run)) 𝓜 𝓡 code.env #show shw-def.routine code.calls-replay·writing·show (shw-thm.met 𝓤 H 𝓜 𝓖 𝓡))
     (cited 𝓤 H (Write 𝓤 H (𝓖 .A) (𝓜 .mem) (𝓡 .run)) 𝓜 𝓡 code.env #write-out wrt-def.routine code.calls-replay·writing·write-out (wrt-thm.met 𝓤 H 𝓜 𝓖 𝓡))
     (cited 𝓤 H (New 𝓤 H (𝓖 .A) (𝓜 .mem) (𝓡 .run)) 𝓜 𝓡 code.env #new-set new-def.routine code.calls-set-rules·state·LineSet·new (new-thm.met 𝓤 H 𝓜 𝓖 𝓡))

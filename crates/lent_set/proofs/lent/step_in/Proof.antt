@@ -1,4 +1,4 @@
--- `line_set::step_in` meets its contract: a walk of its MIR, by hand. The borrow is opened, the struct is read whole and passed to `step`, what comes back is stored whole, and the borrow is closed.
+-- `lent_set::step_in` meets its contract: a walk of its MIR, by hand. The borrow is opened, the struct is read whole and passed to `step`, what comes back is stored whole, and the borrow is closed.
 -- Assumes nothing.
 use mathlib.Core.Path.{_≡_, refl, ap}
 use Prim.Native.Nat.{ℕ, _<_, _^_}
@@ -49,14 +49,14 @@ use Rattle.set_rules.proofs.state.Answer as TA
 use Rattle.set_rules.proofs.state.Answer.Laws as TA′
 use Rattle.set_rules.proofs.state.Reply as TR
 use Rattle.set_rules.proofs.state.Reply.Laws as TR′
-use Rattle.line_set.proofs.entry.step as step
-use Rattle.line_set.proofs.entry.step.Symbol as step-def
-use Rattle.line_set.proofs.entry.step.Symbol.{name as #line-set·entry·step}
-use Rattle.line_set.proofs.entry.step.Met as step-thm
-use Rattle.line_set.proofs.lent.step_in.Key.{name as #line-set·lent·step-in}
-use Rattle.line_set.proofs.lent.step_in as step-in
-use Rattle.line_set.proofs.lent.step_in.Statement as stated
-use Rattle.line_set.proofs.lent.step_in.Code as code
+use Rattle.line_set.proofs.step as step
+use Rattle.line_set.proofs.step.Symbol as step-def
+use Rattle.line_set.proofs.step.Symbol.{name as #line-set·step}
+use Rattle.line_set.proofs.step.Met as step-thm
+use Rattle.lent_set.proofs.lent.step_in.Key.{name as #lent-set·lent·step-in}
+use Rattle.lent_set.proofs.lent.step_in as step-in
+use Rattle.lent_set.proofs.lent.step_in.Statement as stated
+use Rattle.lent_set.proofs.lent.step_in.Code as code
 
 abbrev L : Type 0
 L = RefT (List ℕ)
@@ -136,7 +136,7 @@ module _ {M : Type 1} (𝓤 : URA M) (H : Heap 𝓤) (A : Atoms 𝓤) (W : Given
   goes-step : ent 𝓤 (⋆ 𝓤 H A ((‵ (flft κ₁ q₁) ⊛ ‵ (flft κ₂ q₂) ⊛ ‵ ftrue) ∷ ‵ (owns (T.the-row ∷ ShrSlice (named 0) κ₁ u8 ∷ MutSlice (named 1) κ₂ u8 ∷ []) (h, (e, (y, tt))) (mach h ∷ [], (ev ∷ [], (yv ∷ [], tt)))) ∷ [])) (Step 𝓤 H A at-mem run .pre to-step)
   goes-step = qed W ((‵ (flft κ₁ q₁) ⊛ ‵ (flft κ₂ q₂) ⊛ ‵ ftrue) ∷ ‵ (owns (T.the-row ∷ ShrSlice (named 0) κ₁ u8 ∷ MutSlice (named 1) κ₂ u8 ∷ []) (h, (e, (y, tt))) (mach h ∷ [], (ev ∷ [], (yv ∷ [], tt)))) ∷ []) ∵ join ! $ frame ! $ done !
 
-  module _ (C : Calls 𝓤 H) (Λ : Loops 𝓤 H) (fm : FmC 𝓤 H (W .laws) C) (known : Triple 𝓤 (C #line-set·entry·step) (Step 𝓤 H A at-mem run)) where
+  module _ (C : Calls 𝓤 H) (Λ : Loops 𝓤 H) (fm : FmC 𝓤 H (W .laws) C) (known : Triple 𝓤 (C #line-set·step) (Step 𝓤 H A at-mem run)) where
     walk : Is (ShrSlice (named 1) κ₁ u8) e (ev ∷ []) → Room u8 (length ys)
         → ent 𝓤 (onEntry 𝓤 H A step-in.signature (κ, (κ₁, (κ₂, tt))) (q, (q₁, (q₂, tt))) x at) (WpFn 𝓤 H C Λ code.function (vptr b o ∷ ev ∷ yv ∷ []) Post)
     walk p room =
@@ -174,7 +174,7 @@ module _ {M : Type 1} (𝓤 : URA M) (H : Heap 𝓤) (A : Atoms 𝓤) (W : Given
         keep ! (0 ∷ 1 ∷ 2 ∷ 3 ∷ 4 ∷ 6 ∷ []) $ by ! (exits r (zs .1 .1 .0) (refusal-fits r v is) (count-fits r v is) s l)))))))))))))))))
 
 module _ {M : Type 1} (𝓤 : URA M) (H : Heap 𝓤) (A : Atoms 𝓤) (W : Given 𝓤 H A) (at-mem : Memory → SProp 𝓤) (run : Routine → Fun 𝓤) where
-  step-in-walks : (C : Calls 𝓤 H) (Λ : Loops 𝓤 H) → FmC 𝓤 H (W .laws) C → Triple 𝓤 (C #line-set·entry·step) (Step 𝓤 H A at-mem run) → Walks 𝓤 H A step-in.ended stayed (WpFn 𝓤 H C Λ code.function) (step-in.clauses 𝓤 H A at-mem run)
+  step-in-walks : (C : Calls 𝓤 H) (Λ : Loops 𝓤 H) → FmC 𝓤 H (W .laws) C → Triple 𝓤 (C #line-set·step) (Step 𝓤 H A at-mem run) → Walks 𝓤 H A step-in.ended stayed (WpFn 𝓤 H C Λ code.function) (step-in.clauses 𝓤 H A at-mem run)
   step-in-walks C Λ fm known = walked 𝓤 H A step-in.ended stayed (step-in.clauses 𝓤 H A at-mem run) (WpFn 𝓤 H C Λ code.function) (λ κs. (ptr-vals, (slice-vals, (slice-vals, tt))))
       (λ κs. (mut-tells (named 0) (κs .0) (T.the-row), (shr-slice-tells (named 1) (κs .1 .0) u8, (mut-slice-tells (named 2) (κs .1 .1 .0) u8, tt))))
       (λ κs qs bounds a _ are. via 𝓤 _ (fst∗ 𝓤 _ (emp 𝓤)) (walk 𝓤 H A W at-mem run (κs .0) (κs .1 .0) (κs .1 .1 .0) (qs .0) (qs .1 .0) (qs .1 .1 .0) (a .0 .ptr .0) (a .0 .ptr .1) (a .0 .name) (a .0 .now) (a .1 .0) (a .1 .1 .0 .ptr .0) (a .1 .1 .0 .ptr .1) (a .1 .1 .0 .name) (a .1 .1 .0 .now) C Λ fm known (are .1 .0) (are .1 .1 .0 .0 .1)))
@@ -182,7 +182,7 @@ module _ {M : Type 1} (𝓤 : URA M) (H : Heap 𝓤) (A : Atoms 𝓤) (W : Given
   goes : AllGo 𝓤 H A W 3 (step-in.signature .params) (step-in.ended .kept) stayed
   goes = (goes-ref 𝓤 H A W 3 0 tt (plain (λ _. T.the-row)), (goes-none-slice 𝓤 H A W 3 (1 ∷ []) tt (plain (λ _. u8)) yes, (goes-gave-slice 𝓤 H A W 3 2 tt (plain (λ _. u8)), tt)))
 
-step-in-meets : {M : Type 1} (𝓤 : URA M) (H : Heap 𝓤) (A : Atoms 𝓤) → Given 𝓤 H A → (at-mem : Memory → SProp 𝓤) (run : Routine → Fun 𝓤) (𝓣 : Tables 𝓤 H) → Triple 𝓤 (𝓣 .C #line-set·entry·step) (Step 𝓤 H A at-mem run)
+step-in-meets : {M : Type 1} (𝓤 : URA M) (H : Heap 𝓤) (A : Atoms 𝓤) → Given 𝓤 H A → (at-mem : Memory → SProp 𝓤) (run : Routine → Fun 𝓤) (𝓣 : Tables 𝓤 H) → Triple 𝓤 (𝓣 .C #line-set·step) (Step 𝓤 H A at-mem run)
     → Meets 𝓤 H A step-in.signature (WpFn 𝓤 H (𝓣 .C) (𝓣 .Λ) code.function) (step-in.spec 𝓤 H A at-mem run)
 step-in-meets 𝓤 H A W at-mem run 𝓣 known = walk-meets 𝓤 H A step-in.ended stayed W (goes 𝓤 H A W at-mem run) (step-in.clauses 𝓤 H A at-mem run) (WpFn 𝓤 H (𝓣 .C) (𝓣 .Λ) code.function) (WpFn-mono 𝓤 H (W .laws) 𝓣 code.function)
     (step-in-walks 𝓤 H A W at-mem run (𝓣 .C) (𝓣 .Λ) (fmOf 𝓤 H (W .laws) 𝓣) known)
@@ -191,6 +191,6 @@ pub step-in-spec : {M : Type 1} → stated.statement M
 unfolding code.routine tablesOf
 step-in-spec 𝓤 H 𝓜 𝓖 𝓡 =
     entered 𝓤 H (tripleOf 𝓤 H (𝓖 .A) step-in.signature (step-in.spec 𝓤 H (𝓖 .A) (𝓜 .mem) (𝓡 .run)))
-    (tables 𝓤 H 𝓜 𝓡 code.env .C) (tables 𝓤 H 𝓜 𝓡 code.env .Λ) #line-set·lent·step-in code.function (code.unfolded 𝓤 H 𝓜 𝓡)
+    (tables 𝓤 H 𝓜 𝓡 code.env .C) (tables 𝓤 H 𝓜 𝓡 code.env .Λ) #lent-set·lent·step-in code.function (code.unfolded 𝓤 H 𝓜 𝓡)
     (step-in-meets 𝓤 H (𝓖 .A) (givenOf 𝓤 H 𝓜 𝓖) (𝓜 .mem) (𝓡 .run) (tablesOf 𝓤 H 𝓜 (tables 𝓤 H 𝓜 𝓡 code.env))
-    (cited 𝓤 H (Step 𝓤 H (𝓖 .A) (𝓜 .mem) (𝓡 .run)) 𝓜 𝓡 code.env #line-set·entry·step step-def.routine code.calls-line-set·entry·step (step-thm.met 𝓤 H 𝓜 𝓖 𝓡)))
+    (cited 𝓤 H (Step 𝓤 H (𝓖 .A) (𝓜 .mem) (𝓡 .run)) 𝓜 𝓡 code.env #line-set·step step-def.routine code.calls-line-set·step (step-thm.met 𝓤 H 𝓜 𝓖 𝓡)))

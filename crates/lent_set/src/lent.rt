@@ -1,5 +1,5 @@
 // A set that is lent: it is stepped where it lies.
-use super::entry::step;
+use line_set::step;
 use set_rules::LineSet;
 use set_rules::Reply;
 ghost use lib.ListN.{length};
