@@ -1,2 +1,1 @@
 pub mod Payloads
-pub mod Planned

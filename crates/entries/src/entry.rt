@@ -1,5 +1,4 @@
 // Entries: the length, the version, the kind, and what the kind's payload has.
-use super::bytes;
 use fields::Digits;
 use set_rules::Entry;
 ghost use mathlib.Core.Path.{_≡_};
@@ -136,7 +135,7 @@ fn is_measured(entry: &[u8]) -> bool
     if entry.len() < 4 {
         return false;
     }
-    let length = bytes::word(entry);
+    let length = set_rules::word(entry);
     (length + 2 == entry.len()) & (length <= 12000)
 }
 

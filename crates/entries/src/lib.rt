@@ -1,10 +1,4 @@
-// Entries and plans, read from bytes.
-mod bytes;
-mod channels;
-mod desks;
+// Entries, read from bytes. What a plan's bytes make is a crate of its own, plans.
 mod entry;
-mod plan;
 
 pub use entry::read_entry;
-pub use plan::Plan;
-pub use plan::read_plan;

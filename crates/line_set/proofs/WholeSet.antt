@@ -9,7 +9,7 @@ use lib.Dec.{eqb}
 use lib.ListN.{length}
 use borrow.Author.Tests.{eqb-true}
 use Rattle.laws.proofs.Tests.{both}
-use Rattle.entries.specs.Planned.{planOf}
+use Rattle.plans.specs.Planned.{planOf}
 use Rattle.laws.specs.Table.{pick}
 use Rattle.set_rules.specs.Entries.{planIn, readEntry}
 use Rattle.set_rules.specs.Plan.{planOk, setOf}

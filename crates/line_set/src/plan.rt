@@ -8,7 +8,7 @@ ghost use Rattle.line_set.specs.Plans.{PlanGives};
 pub fn plan(bytes: &[u8], buffer: &mut [u8]) -> Answer
     ensures { λ r. ⌜ PlanGives (now (bytes .entry)) r (now (buffer .entry)) (now (buffer .exit)) ⌝ }
 {
-    let p = entries::read_plan(bytes);
+    let p = plans::read_plan(bytes);
     let set = p.set;
     let mut count = 0;
     let mut refusal = 0;

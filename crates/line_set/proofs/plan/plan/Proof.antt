@@ -9,8 +9,8 @@ use lib.ListN.{length}
 use denote.Ref.{now}
 use borrow.Author.Tests.{not-true, not-false}
 use Rattle.channel.specs.State.{firstDesks}
-use Rattle.entries.specs.Planned.{planOf}
-use Rattle.entries.specs.declared.plan.Plan.{Plan}
+use Rattle.plans.specs.Planned.{planOf}
+use Rattle.plans.specs.declared.plan.Plan.{Plan}
 use Rattle.records.specs.Emitting.{written, delivery}
 use Rattle.records.specs.declared.body.Body.the-variants.{TimeRequest}
 use Rattle.set_rules.specs.Entries.{planIn}

@@ -1,0 +1,16 @@
+-- `set_rules::bytes::byte` meets its contract: past the end the definition's default is read.
+-- Assumes nothing.
+use mathlib.Core.Path.{sym}
+use lib.ListN.{List·getD-eq-default}
+use borrow.Author.Needs.{needs}
+use Rattle.set_rules.proofs.bytes.byte.Statement.{statement}
+use Rattle.set_rules.proofs.bytes.byte.Tie as tie
+
+returns : tie.Need-returns
+returns c = search needs
+
+returns-2 : tie.Need-returns-2
+returns-2 c = sym (List·getD-eq-default (c .before .args .s .now) 0 (c .if1 .left))
+
+pub byte-spec : {M : Type 1} → statement M
+byte-spec = tie.close (tie.spec (λ c. search needs) returns returns-2)
