@@ -1,2 +1,2 @@
-pub mod Plain
+pub mod Memory
 pub mod Promises

@@ -1,13 +1,13 @@
 // The functions that a caller in another language links. Each passes what lies behind its references on by value, so that
 // only the last two need a proof by hand.
-use super::convert;
-use super::plain::PlainSet;
+use plain_set::PlainSet;
 use set_rules::LineSet;
 ghost use mathlib.Core.Path.{_≡_};
 ghost use lib.ListN.{length};
 ghost use Rattle.set_rules.specs.State.{newSet};
 ghost use Rattle.set_rules.specs.Feeds.{stepOf};
-ghost use Rattle.controller.specs.Plain.{setIn, plainOf, setSize, setAlign, layoutNow, isCurrent, flagOf, Keeps, KeepsIn};
+ghost use Rattle.plain_set.specs.Plain.{setIn, plainOf, flagOf};
+ghost use Rattle.controller.specs.Memory.{setSize, setAlign, layoutNow, isCurrent, Keeps, KeepsIn};
 
 // The answer to an entry, with the set as numbers.
 pub struct Kept {
@@ -24,14 +24,14 @@ fn new_plain() -> PlainSet
     ensures { λ r. ⌜ r ≡ plainOf layoutNow newSet ⌝ }
 {
     let set = LineSet::new();
-    convert::plain_of(LAYOUT, set)
+    plain_set::plain_of(LAYOUT, set)
 }
 
 // A refused entry leaves every number as it is, even of a set that nobody made, and no entry changes how the memory begins.
 fn step_plain(plain: PlainSet, entry: &[u8], buffer: &mut [u8]) -> Kept
     ensures { λ r. ⌜ Keeps plain (stepOf (setIn plain) (now (entry .entry)) (length (now (buffer .entry)))) r (now (buffer .entry)) (now (buffer .exit)) ⌝ }
 {
-    let set = convert::set_in(plain);
+    let set = plain_set::set_in(plain);
     let a = line_set::step(set, entry, buffer);
     if a.refusal != 0 {
         return Kept {
@@ -42,7 +42,7 @@ fn step_plain(plain: PlainSet, entry: &[u8], buffer: &mut [u8]) -> Kept
     }
     let next = a.set;
     let layout = plain.layout;
-    let after = convert::plain_of(layout, next);
+    let after = plain_set::plain_of(layout, next);
     Kept {
         set: after,
         count: a.count,

@@ -37,10 +37,11 @@ use denote.Triple.Clauses.{ensured, lasts}
 use denote.Triple.Table.{entered, cited}
 use denote.Triple.Walked.{says, Stays, stay-ref, walkOf, AllGo, goes-ref, Walks, ends-at, walked, walk-meets}
 use Rattle.set_rules.specs.State.{newSet}
-use Rattle.controller.specs.Plain.{plainOf, layoutNow}
-use Rattle.controller.specs.declared.plain.PlainSet.{PlainSet}
-use Rattle.controller.proofs.plain.PlainSet as T
-use Rattle.controller.proofs.plain.PlainSet.Laws as T′
+use Rattle.plain_set.specs.Plain.{plainOf}
+use Rattle.controller.specs.Memory.{layoutNow}
+use Rattle.plain_set.specs.declared.plain.PlainSet.{PlainSet}
+use Rattle.plain_set.proofs.plain.PlainSet as T
+use Rattle.plain_set.proofs.plain.PlainSet.Laws as T′
 use Rattle.controller.proofs.exports.new_plain as new
 use Rattle.controller.proofs.exports.new_plain.Symbol as new-def
 use Rattle.controller.proofs.exports.new_plain.Symbol.{name as #new-plain}

@@ -42,11 +42,12 @@ use denote.Exit.{yes}
 use lib.ListN.{length}
 use Rattle.telegram.specs.Telegram.{over}
 use Rattle.set_rules.specs.Feeds.{stepOf}
-use Rattle.controller.specs.Plain.{setIn, keptOf}
-use Rattle.controller.specs.declared.plain.PlainSet.{PlainSet}
+use Rattle.plain_set.specs.Plain.{setIn}
+use Rattle.controller.specs.Memory.{keptOf}
+use Rattle.plain_set.specs.declared.plain.PlainSet.{PlainSet}
 use Rattle.controller.specs.declared.exports.Kept.{Kept}
-use Rattle.controller.proofs.plain.PlainSet as T
-use Rattle.controller.proofs.plain.PlainSet.Laws as T′
+use Rattle.plain_set.proofs.plain.PlainSet as T
+use Rattle.plain_set.proofs.plain.PlainSet.Laws as T′
 use Rattle.controller.proofs.exports.Kept as TK
 use Rattle.controller.proofs.exports.Kept.Laws as TK′
 use Rattle.controller.proofs.exports.step_plain as step

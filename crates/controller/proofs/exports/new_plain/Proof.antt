@@ -1,7 +1,8 @@
 -- `controller::exports::new_plain` meets its contract.
 -- Assumes nothing.
 use mathlib.Core.Path.{_∙_, ap}
-use Rattle.controller.specs.Plain.{plainOf, layoutNow}
+use Rattle.plain_set.specs.Plain.{plainOf}
+use Rattle.controller.specs.Memory.{layoutNow}
 use borrow.Author.Needs.{needs}
 use Rattle.controller.proofs.exports.new_plain.Statement.{statement}
 use Rattle.controller.proofs.exports.new_plain.Tie as tie

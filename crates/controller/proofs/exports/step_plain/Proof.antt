@@ -10,8 +10,8 @@ use Rattle.telegram.specs.Telegram.{over}
 use Rattle.set_rules.specs.Feeds.{answerOf, stepOf}
 use Rattle.set_rules.specs.declared.state.LineSet.{LineSet}
 use Rattle.set_rules.specs.declared.state.Answer.{Answer}
-use Rattle.controller.specs.Plain.{plainOf}
-use Rattle.controller.specs.declared.plain.PlainSet.{PlainSet}
+use Rattle.plain_set.specs.Plain.{plainOf}
+use Rattle.plain_set.specs.declared.plain.PlainSet.{PlainSet}
 use Rattle.controller.specs.declared.exports.Kept.{Kept}
 use borrow.Author.Needs.{needs}
 use Rattle.controller.proofs.exports.step_plain.Statement.{statement}

@@ -1,0 +1,46 @@
+-- A set in a caller's memory: its size, how it begins, and what an entry leaves there.
+use Prim.Native.Nat.{ℕ}
+use mathlib.Core.List.{List, [], _∷_}
+use mathlib.Core.Bool.{Bool, _&&_, cond}
+use mathlib.Core.Path.{_≡_}
+use lib.Dec.{eqb}
+use lib.ListN.{length, getD}
+use Rattle.telegram.specs.Telegram.{over}
+use Rattle.set_rules.specs.Feeds.{Outcome}
+use Rattle.plain_set.specs.Plain.{plainOf}
+use Rattle.plain_set.specs.declared.plain.PlainSet.{PlainSet}
+use Rattle.controller.specs.declared.exports.Kept.{Kept}
+
+-- ---- the memory of a set, which the compiler lays out by C's rules: four bytes, channels of 36, desks of 12, and four
+
+abbrev pub setSize : ℕ
+setSize = 1208
+
+abbrev pub setAlign : ℕ
+setAlign = 4
+
+-- how it begins: "IMJ", and the number of this layout
+abbrev pub layoutNow : List ℕ
+layoutNow = 73 ∷ 77 ∷ 74 ∷ 1 ∷ []
+
+-- bytes as long as a set that begin so
+abbrev pub isCurrent : List ℕ → Bool
+isCurrent b =
+    eqb (length b) setSize && (eqb (getD b 0 0) 73 && (eqb (getD b 1 0) 77 && (eqb (getD b 2 0) 74 && eqb (getD b 3 0) 1)))
+
+-- ---- an entry
+
+-- the numbers after an entry, which leaves how they begin; "each refusal .. leaves set and buffer untouched", whatever they are
+abbrev pub plainAfter : PlainSet → Outcome → PlainSet
+plainAfter p o = cond (eqb (o .refusal) 0) (plainOf (p .layout) (o .after)) p
+
+-- the answer to an entry, with the set as numbers
+abbrev pub keptOf : PlainSet → Outcome → Kept
+keptOf p o = record { set = plainAfter p o; count = o .count; refusal = o .refusal }
+
+abbrev pub Keeps : PlainSet → Outcome → Kept → List ℕ → List ℕ → Type 0
+Keeps p o r before after = (r ≡ keptOf p o) × (after ≡ over (o .bytes) before)
+
+-- the same where the numbers and the count lie in the caller's memory: q and n are what lies there after it
+abbrev pub KeepsIn : PlainSet → Outcome → ℕ → ℕ → PlainSet → List ℕ → List ℕ → Type 0
+KeepsIn p o r n q before after = (r ≡ o .refusal) × ((n ≡ o .count) × ((q ≡ plainAfter p o) × (after ≡ over (o .bytes) before)))
