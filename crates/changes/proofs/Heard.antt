@@ -12,7 +12,7 @@ use Rattle.sends.specs.Scripts.{heard}
 use Rattle.channel.specs.declared.state.Send.{Send}
 use Rattle.set_rules.specs.Records.{delivered, recordsOf, spaceOf}
 use Rattle.set_rules.specs.declared.state.Desk.{Desk}
-use Rattle.records.specs.Emitting.{deliveryOf}
+use Rattle.bodies.specs.Bodies.{deliveryOf}
 use Rattle.records.proofs.SendLaws.{nobody}
 
 pub heard-records : (ds : List Desk) (ch : ℕ) (ss : List Send) → recordsOf ds (delivered ds ch (heard ss)) ≡ recordsOf ds (delivered ds ch ss)

@@ -44,7 +44,7 @@ fn on_channel(desks: [Desk; 4], n: u8, event: Event, c: Channel, buffer: &mut [u
 {
     let m = moved(desks, n, event, c);
     let sends = m.sends;
-    let need = records::space(sends);
+    let need = bodies::space(sends);
     if buffer.len() < need {
         return refuse(c, 16);
     }

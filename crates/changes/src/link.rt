@@ -1,6 +1,6 @@
 // What a telegram about a desk's link changes: the desks as they are after it.
 use super::lookup;
-use records::Body;
+use bodies::Body;
 use set_rules::Desk;
 use set_rules::LinkRequest;
 ghost use mathlib.Core.Path.{_≡_};
@@ -20,7 +20,7 @@ fn time_told(desks: [Desk; 4], d: u8, buffer: &mut [u8]) -> LinkChange
     ensures { λ r. ⌜ InDesks desks (λ s. emit s (timeTaken s d)) r (now (buffer .entry)) (now (buffer .exit)) ⌝ }
 {
     let recipients = channel::only(d);
-    let need = records::space_to(recipients, Body::OperationRequest);
+    let need = bodies::space_to(recipients, Body::OperationRequest);
     if buffer.len() < need {
         return LinkChange {
             desks,

@@ -17,7 +17,7 @@ pub fn space_in(desks: [Desk; 4], n: u8, event: Event, c: Channel) -> usize
 {
     let m = changes::moved(desks, n, event, c);
     let sends = m.sends;
-    records::space(sends)
+    bodies::space(sends)
 }
 
 // Writes what an event on one channel sends, from a place on, and gives the place behind.

@@ -1,5 +1,5 @@
 // A plan makes the set anew, and each desk is asked for the time.
-use records::Body;
+use bodies::Body;
 use set_rules::Answer;
 ghost use Rattle.line_set.specs.Plans.{PlanGives};
 
@@ -17,7 +17,7 @@ pub fn plan(bytes: &[u8], buffer: &mut [u8]) -> Answer
     } else {
         let desks = set.desks;
         let recipients = channel::first_desks(set.size.desks);
-        let need = records::space_to(recipients, Body::TimeRequest);
+        let need = bodies::space_to(recipients, Body::TimeRequest);
         if buffer.len() < need {
             refusal = 16;
         } else {

@@ -1,23 +1,18 @@
--- What a channel sends, send by send: the records and the space of the first and of the others.
+-- What a channel sends, send by send: the records of the first and of the others.
 -- Assumes nothing.
-use Prim.Native.Nat.{ℕ, _+_, _*_, _≤_, _<_}
+use Prim.Native.Nat.{ℕ, _+_, _≤_, _<_}
 use mathlib.Core.List.{List, [], _∷_}
-use mathlib.Core.Path.{_≡_, refl, ap, _∙_}
+use mathlib.Core.Path.{_≡_, refl}
 use native.Mathlib.Numerals.{add-one}
-use native.Mathlib.Omega.{arith}
-use lib.Count.{onesIn}
 use lib.ListN.{length, drop, getD, drop-of-length-le}
 use lib.Seq.{drop-cons}
-use Rattle.line_rules.specs.Notices.{contentFor}
 use Rattle.channel.specs.declared.state.Send.{Send}
-use Rattle.set_rules.specs.State.{ownOf}
-use Rattle.set_rules.specs.Records.{Delivery, delivered, recordSize, recordsOf, spaceOf, toEach}
+use Rattle.set_rules.specs.Records.{Delivery, delivered, recordsOf, toEach}
 use Rattle.set_rules.specs.declared.state.Desk.{Desk}
 use Rattle.set_rules.proofs.Answers.{halves}
-use Rattle.records.specs.Emitting.{deliveryOf, shapeOf, sizeIn}
-use Rattle.records.specs.declared.body.Body.the-variants.{About}
+use Rattle.bodies.specs.Bodies.{deliveryOf}
 use Rattle.records.proofs.Writing.{Split}
-use Rattle.records.proofs.RecordLaws.{notice-size, each-none, records-one}
+use Rattle.records.proofs.RecordLaws.{each-none, records-one}
 
 -- a delivery to nobody
 pub nobody : (ds : List Desk) (v : Delivery) → v .recipients ≡ 0 → toEach 8 0 ds v ≡ []
@@ -32,25 +27,3 @@ send-turn ds ch ss k z h = record { parts = rw (add-one, drop-cons ss k z h, rec
 pub send-end : (ds : List Desk) (ch : ℕ) (ss : List Send) (k : ℕ) → length ss ≤ k → recordsOf ds (delivered ds ch (drop k ss)) ≡ []
 unfolding recordsOf delivered
 send-end ds ch ss k h = rw (drop-of-length-le ss h) refl
-
--- the space that the send at k adds to that of those after it
-space-turn : (ds : List Desk) (ch : ℕ) (ss : List Send) (k : ℕ) (z : Send) → k < length ss
-    → spaceOf (delivered ds ch (drop k ss)) ≡ onesIn 8 (getD ss k z .recipients) * recordSize (contentFor 0 (ownOf ds 0) ch (getD ss k z .notice)) + spaceOf (delivered ds ch (drop (k + 1) ss))
-unfolding spaceOf delivered
-space-turn ds ch ss k z h = rw (add-one, drop-cons ss k z h) refl
-
--- a turn of the loop that sums up: `sum` so far, and `one` for the send at k, of the size that its notice has about any channel
-pub space-next : (ds : List Desk) (ch : ℕ) (ss : List Send) (k : ℕ) (z : Send) (sum : ℕ) {one size total : ℕ}
-    → k < length ss
-    → sum + spaceOf (delivered ds ch (drop k ss)) ≡ total
-    → size ≡ sizeIn (shapeOf (About 0 (getD ss k z .notice)))
-    → one ≡ onesIn 8 (getD ss k z .recipients) * size
-    → sum + one + spaceOf (delivered ds ch (drop (k + 1) ss)) ≡ total
-space-next ds ch ss k z sum {one} {size} {total} h e es eo =
-    let turn = space-turn ds ch ss k z h in
-    let same = es ∙ notice-size 0 (ownOf ds 0) ch (getD ss k z .notice) in
-    omega (arith, turn, eo ∙ ap (λ (n : ℕ). onesIn 8 (getD ss k z .recipients) * n) same, e)
-
-pub space-end : (ds : List Desk) (ch : ℕ) (ss : List Send) (k : ℕ) → length ss ≤ k → spaceOf (delivered ds ch (drop k ss)) ≡ 0
-unfolding spaceOf delivered
-space-end ds ch ss k h = rw (drop-of-length-le ss h) refl

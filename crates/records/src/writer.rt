@@ -1,9 +1,7 @@
 // Records written into a lent buffer.
-use super::body::Body;
-use super::form;
-use super::shape;
-use super::shape::Own;
-use super::shape::Shape;
+use bodies::Body;
+use bodies::Own;
+use bodies::Shape;
 use channel::Send;
 use set_rules::Desk;
 use telegram::Number;
@@ -13,7 +11,8 @@ ghost use Prim.Native.Nat.{_+_, _-_, _≤_};
 ghost use lib.ListN.{length};
 ghost use Rattle.set_rules.specs.State.{ownOf};
 ghost use Rattle.set_rules.specs.Records.{recordFor, recordsOf, delivered};
-ghost use Rattle.records.specs.Emitting.{written, PutAt, bodyFor, delivery, deliveryOf, headBytes, restBytes, shapeOf, formOf, ownEnd, numberedFor, toOne};
+ghost use Rattle.bodies.specs.Bodies.{bodyFor, delivery, deliveryOf, shapeOf, formOf, ownEnd, numberedFor};
+ghost use Rattle.records.specs.Emitting.{written, PutAt, headBytes, restBytes, toOne};
 
 // The head of a record of so many bytes: how many follow the length, the version, the desk, and what kind of content it is.
 fn put_head(buffer: &mut [u8], size: usize, d: u8, kind: u8)
@@ -139,14 +138,14 @@ pub fn put_to(buffer: &mut [u8], at: usize, desks: [Desk; 4], recipients: u8, bo
     requires { ⌜ at + length (recordsOf desks (delivery desks recipients body ∷ [])) ≤ length (now buffer) ⌝ }
     ensures { λ r. ⌜ PutAt at (recordsOf desks (delivery desks recipients body ∷ [])) r (now (buffer .entry)) (now (buffer .exit)) ⌝ }
 {
-    let shape = shape::shape_of(body);
+    let shape = bodies::shape_of(body);
     match shape {
         Shape::Contact { .. } => {
             let form = [0u8; 46];
             put_each(buffer, at, desks, recipients, body, shape, &form)
         }
         Shape::Telegram { .. } => {
-            let form = form::form_of(body);
+            let form = bodies::form_of(body);
             put_each(buffer, at, desks, recipients, body, shape, &form)
         }
     }

@@ -5,8 +5,9 @@ use mathlib.Core.List.{List, [], _∷_}
 use mathlib.Core.Path.{_≡_, refl, ap, ap₂, _∙_}
 use native.Mathlib.Omega.{arith}
 use denote.Ref.{now}
-use Rattle.records.specs.Emitting.{written, delivery}
-use Rattle.records.specs.declared.body.Body.the-variants.{OperationRequest}
+use Rattle.bodies.specs.Bodies.{delivery}
+use Rattle.records.specs.Emitting.{written}
+use Rattle.bodies.specs.declared.body.Body.the-variants.{OperationRequest}
 use Rattle.set_rules.specs.State.{timeTold, linkedAt, withDesks}
 use Rattle.set_rules.specs.Records.{recordsOf, spaceOf}
 use Rattle.set_rules.specs.SetRules.{timeTaken}

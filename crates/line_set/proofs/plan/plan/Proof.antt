@@ -11,8 +11,9 @@ use borrow.Author.Tests.{not-true, not-false}
 use Rattle.channel.specs.State.{firstDesks}
 use Rattle.plans.specs.Planned.{planOf}
 use Rattle.plans.specs.declared.plan.Plan.{Plan}
-use Rattle.records.specs.Emitting.{written, delivery}
-use Rattle.records.specs.declared.body.Body.the-variants.{TimeRequest}
+use Rattle.bodies.specs.Bodies.{delivery}
+use Rattle.records.specs.Emitting.{written}
+use Rattle.bodies.specs.declared.body.Body.the-variants.{TimeRequest}
 use Rattle.set_rules.specs.Entries.{planIn}
 use Rattle.set_rules.specs.Plan.{planOk}
 use Rattle.set_rules.specs.Records.{recordsOf, spaceOf}

@@ -7,7 +7,7 @@ use mathlib.Core.Path.{_≡_, refl}
 use native.Mathlib.Omega.{arith}
 use Rattle.set_rules.specs.Records.{toEach, recordsOf}
 use Rattle.set_rules.proofs.Answers.{halves}
-use Rattle.records.specs.Emitting.{delivery}
+use Rattle.bodies.specs.Bodies.{delivery}
 use Rattle.records.proofs.Writing.{Writing, start, next, room, done}
 use Rattle.records.proofs.RecordLaws.{place-left, each-turn, half-turn, each-none, records-one}
 use borrow.Author.Needs.{needs}

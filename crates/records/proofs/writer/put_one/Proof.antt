@@ -7,7 +7,7 @@ use denote.Ref.{now}
 use lib.ListN.{length, length-take, length-drop}
 use Rattle.set_rules.specs.State.{ownOf}
 use Rattle.set_rules.specs.Records.{recordFor}
-use Rattle.records.specs.Emitting.{bodyFor}
+use Rattle.bodies.specs.Bodies.{bodyFor}
 use Rattle.records.proofs.Writing.{start, done, part-back}
 use Rattle.records.proofs.RecordLaws.{one-taken, one-left}
 use borrow.Author.Needs.{needs}

@@ -11,10 +11,12 @@ use Rattle.set_rules.specs.State.{ownOf}
 use Rattle.set_rules.specs.Records.{recordFor}
 use Rattle.set_rules.specs.declared.state.Desk.{Desk}
 use Rattle.set_rules.proofs.Answers.{record-length}
-use Rattle.records.specs.Emitting.{bodyFor, restBytes}
-use Rattle.records.specs.declared.shape.Own.{Own}
+use Rattle.bodies.specs.Bodies.{bodyFor}
+use Rattle.records.specs.Emitting.{restBytes}
+use Rattle.bodies.specs.declared.shape.Own.{Own}
 use Rattle.records.proofs.Writing.{Writing, start, next, last, room, done, part-back}
-use Rattle.records.proofs.RecordLaws.{AsTelegram, as-contact, as-telegram, size-is, size-most, parts}
+use Rattle.bodies.proofs.BodyLaws.{AsTelegram, as-contact, as-telegram, size-is, size-most}
+use Rattle.records.proofs.RecordLaws.{parts}
 use borrow.Author.Needs.{needs}
 use Rattle.records.proofs.writer.put_record.Statement.{statement}
 use Rattle.records.proofs.writer.put_record.Tie as tie

@@ -1,7 +1,7 @@
 -- `records::writer::put_send` meets its contract: to nobody there are no records.
 -- Assumes nothing.
 use mathlib.Core.Path.{_∙_}
-use Rattle.records.specs.Emitting.{deliveryOf}
+use Rattle.bodies.specs.Bodies.{deliveryOf}
 use Rattle.records.proofs.Writing.{start, done}
 use Rattle.records.proofs.RecordLaws.{records-one}
 use Rattle.records.proofs.SendLaws.{nobody}

@@ -9,7 +9,7 @@ ghost use mathlib.Core.List.{List, [], _∷_};
 ghost use Prim.Native.Nat.{ℕ, _*_, _≤_};
 ghost use lib.Count.{onesIn};
 ghost use Rattle.set_rules.specs.Records.{delivered, spaceOf};
-ghost use Rattle.records.specs.Emitting.{delivery, sizeIn};
+ghost use Rattle.bodies.specs.Bodies.{delivery, sizeIn};
 
 // How long a record is.
 fn size_in(shape: Shape) -> usize

@@ -1,4 +1,4 @@
--- `records::measure::space_to` meets its contract.
+-- `bodies::measure::space_to` meets its contract.
 -- Assumes nothing.
 use mathlib.Core.Path.{_∙_, sym, ap}
 use native.Mathlib.Nat.{add-zero}
@@ -6,11 +6,11 @@ use native.Mathlib.Omega.{arith}
 use Rattle.telegram.specs.Telegram.{num}
 use Rattle.set_rules.specs.State.{ownOf}
 use Rattle.set_rules.specs.Records.{spaceOf}
-use Rattle.records.specs.Emitting.{sizeIn}
-use Rattle.records.proofs.RecordLaws.{body-size}
+use Rattle.bodies.specs.Bodies.{sizeIn}
+use Rattle.bodies.proofs.BodyLaws.{body-size}
 use borrow.Author.Needs.{needs}
-use Rattle.records.proofs.measure.space_to.Statement.{statement}
-use Rattle.records.proofs.measure.space_to.Tie as tie
+use Rattle.bodies.proofs.measure.space_to.Statement.{statement}
+use Rattle.bodies.proofs.measure.space_to.Tie as tie
 
 space-of-requires : tie.Need-space-of-requires
 space-of-requires c κs =

@@ -9,7 +9,7 @@ use telegram::CaptureReply;
 use telegram::CaptureState;
 use telegram::Number;
 ghost use mathlib.Core.Path.{_≡_};
-ghost use Rattle.records.specs.Emitting.{formOf};
+ghost use Rattle.bodies.specs.Bodies.{formOf};
 
 fn base_arrival_form(ch: u8, kind: u8, base: u16, number: Number, order: u8) -> [u8; 46]
     ensures { λ r. ⌜ r ≡ formOf (Body.About ch (Notice.BaseArrival kind base number order)) ⌝ }

@@ -1,8 +1,8 @@
--- `records::form::notice_form` meets its contract: each arm gives the telegram of its notice.
+-- `bodies::form::notice_form` meets its contract: each arm gives the telegram of its notice.
 -- Assumes nothing.
 use borrow.Author.Needs.{needs}
-use Rattle.records.proofs.form.notice_form.Statement.{statement}
-use Rattle.records.proofs.form.notice_form.Tie as tie
+use Rattle.bodies.proofs.form.notice_form.Statement.{statement}
+use Rattle.bodies.proofs.form.notice_form.Tie as tie
 
 returns-3 : tie.Need-returns-3
 returns-3 c = rw (c .before .before .notice .given .1) (c .base-arrival-form .ensures)

@@ -1,4 +1,4 @@
--- `records::measure::space` meets its contract. The invariant: what is summed up so far and the space of the sends that are left make the
+-- `bodies::measure::space` meets its contract. The invariant: what is summed up so far and the space of the sends that are left make the
 -- whole, whichever channel it is.
 -- Assumes nothing.
 use Prim.Native.Nat.{ℕ, _+_, _*_, _-_, _≤_, _<_}
@@ -9,10 +9,10 @@ use native.Mathlib.Omega.{arith}
 use lib.ListN.{length, drop}
 use Rattle.set_rules.specs.Records.{delivered, spaceOf}
 use Rattle.set_rules.specs.declared.state.Desk.{Desk}
-use Rattle.records.proofs.SendLaws.{space-next, space-end}
+use Rattle.bodies.proofs.SpaceLaws.{space-next, space-end}
 use borrow.Author.Needs.{needs}
-use Rattle.records.proofs.measure.space.Statement.{statement}
-use Rattle.records.proofs.measure.space.Tie as tie
+use Rattle.bodies.proofs.measure.space.Statement.{statement}
+use Rattle.bodies.proofs.measure.space.Tie as tie
 
 abbrev Inv-loop : tie.InvT-loop
 Inv-loop sends sum₀ k₀ sum k = ((ds : List Desk) (ch : ℕ) → sum + spaceOf (delivered ds ch (drop k sends)) ≡ spaceOf (delivered ds ch sends)) × (sum ≤ k * 408) × (k ≤ 7)

@@ -1,14 +1,14 @@
--- `records::measure::space_of` meets its contract: eight bits have at most eight ones.
+-- `bodies::measure::space_of` meets its contract: eight bits have at most eight ones.
 -- Assumes nothing.
 use Prim.Native.Nat.{ℕ, _*_, _^_, _<_}
 use mathlib.Core.Path.{ap, sym}
 use native.Mathlib.Nat.{mul-le-mul}
 use native.Mathlib.Omega.{arith}
 use lib.Count.{ones-le}
-use Rattle.records.proofs.RecordLaws.{ones-in}
+use Rattle.bodies.proofs.BodyLaws.{ones-in}
 use borrow.Author.Needs.{needs}
-use Rattle.records.proofs.measure.space_of.Statement.{statement}
-use Rattle.records.proofs.measure.space_of.Tie as tie
+use Rattle.bodies.proofs.measure.space_of.Statement.{statement}
+use Rattle.bodies.proofs.measure.space_of.Tie as tie
 
 cast-result : tie.Need-cast-result
 cast-result c = let h : c .args .recipients < 2 ^ 8 = search needs in omega (arith, ones-le 8 _ h)

@@ -1,12 +1,12 @@
--- `records::shape::notice_shape` meets its contract: each arm answers for its notice.
+-- `bodies::shape::notice_shape` meets its contract: each arm answers for its notice.
 -- Assumes nothing.
 use Prim.Native.Nat.{ℕ}
 use mathlib.Core.Path.{refl, ap, _∙_}
 use borrow.Author.Needs.{needs}
-use Rattle.records.specs.declared.shape.Own.the-variants.{Nobody, Everyone, Holder}
-use Rattle.records.specs.declared.shape.Shape.the-variants.{Telegram}
-use Rattle.records.proofs.shape.notice_shape.Statement.{statement}
-use Rattle.records.proofs.shape.notice_shape.Tie as tie
+use Rattle.bodies.specs.declared.shape.Own.the-variants.{Nobody, Everyone, Holder}
+use Rattle.bodies.specs.declared.shape.Shape.the-variants.{Telegram}
+use Rattle.bodies.proofs.shape.notice_shape.Statement.{statement}
+use Rattle.bodies.proofs.shape.notice_shape.Tie as tie
 
 returns : tie.Need-returns
 returns c = rw (c .before .notice .given .1) refl

@@ -1,8 +1,8 @@
--- `records::form::form_of` meets its contract: a notice's telegram, or a request's.
+-- `bodies::form::form_of` meets its contract: a notice's telegram, or a request's.
 -- Assumes nothing.
 use borrow.Author.Needs.{needs}
-use Rattle.records.proofs.form.form_of.Statement.{statement}
-use Rattle.records.proofs.form.form_of.Tie as tie
+use Rattle.bodies.proofs.form.form_of.Statement.{statement}
+use Rattle.bodies.proofs.form.form_of.Tie as tie
 
 returns : tie.Need-returns
 returns c = rw (c .before .before .body .given .1) (c .notice-form .ensures)

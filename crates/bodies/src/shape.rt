@@ -3,7 +3,7 @@ use super::body::Body;
 use channel::Notice;
 ghost use mathlib.Core.Path.{_≡_};
 ghost use Prim.Native.Nat.{_≤_};
-ghost use Rattle.records.specs.Emitting.{shapeOf, sizeIn};
+ghost use Rattle.bodies.specs.Bodies.{shapeOf, sizeIn};
 
 // Who finds the own number in a telegram.
 pub enum Own {

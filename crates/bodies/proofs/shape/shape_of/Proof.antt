@@ -1,8 +1,8 @@
--- `records::shape::shape_of` meets its contract: each arm answers for its body.
+-- `bodies::shape::shape_of` meets its contract: each arm answers for its body.
 -- Assumes nothing.
 use borrow.Author.Needs.{needs}
-use Rattle.records.proofs.shape.shape_of.Statement.{statement}
-use Rattle.records.proofs.shape.shape_of.Tie as tie
+use Rattle.bodies.proofs.shape.shape_of.Statement.{statement}
+use Rattle.bodies.proofs.shape.shape_of.Tie as tie
 
 returns : tie.Need-returns
 returns c = rw (c .before .before .body .given .1) (c .notice-shape .ensures)
