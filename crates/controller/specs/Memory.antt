@@ -6,8 +6,8 @@ use mathlib.Core.Path.{_≡_}
 use lib.Dec.{eqb}
 use lib.ListN.{length, getD}
 use Rattle.telegram.specs.Telegram.{over}
-use Rattle.set_rules.specs.Feeds.{Outcome}
-use Rattle.plain_set.specs.Plain.{plainOf}
+use Rattle.set_rules.specs.Feeds.{Outcome, stepOf}
+use Rattle.plain_set.specs.Plain.{setIn, plainOf}
 use Rattle.plain_set.specs.declared.plain.PlainSet.{PlainSet}
 use Rattle.controller.specs.declared.exports.Kept.{Kept}
 
@@ -38,9 +38,11 @@ plainAfter p o = cond (eqb (o .refusal) 0) (plainOf (p .layout) (o .after)) p
 abbrev pub keptOf : PlainSet → Outcome → Kept
 keptOf p o = record { set = plainAfter p o; count = o .count; refusal = o .refusal }
 
-abbrev pub Keeps : PlainSet → Outcome → Kept → List ℕ → List ℕ → Type 0
-Keeps p o r before after = (r ≡ keptOf p o) × (after ≡ over (o .bytes) before)
+-- an entry for numbers with a buffer: its answer, and the buffer after it
+abbrev pub Keeps : PlainSet → List ℕ → Kept → List ℕ → List ℕ → Type 0
+Keeps p e r before after =
+    (r ≡ keptOf p (stepOf (setIn p) e (length before))) × (after ≡ over (stepOf (setIn p) e (length before) .bytes) before)
 
 -- the same where the numbers and the count lie in the caller's memory: q and n are what lies there after it
-abbrev pub KeepsIn : PlainSet → Outcome → ℕ → ℕ → PlainSet → List ℕ → List ℕ → Type 0
-KeepsIn p o r n q before after = (r ≡ o .refusal) × ((n ≡ o .count) × ((q ≡ plainAfter p o) × (after ≡ over (o .bytes) before)))
+abbrev pub KeepsIn : PlainSet → List ℕ → ℕ → ℕ → PlainSet → List ℕ → List ℕ → Type 0
+KeepsIn p e r n q before after = Keeps p e (record { set = q; count = n; refusal = r }) before after

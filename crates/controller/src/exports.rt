@@ -3,10 +3,8 @@
 use plain_set::PlainSet;
 use set_rules::LineSet;
 ghost use mathlib.Core.Path.{_≡_};
-ghost use lib.ListN.{length};
 ghost use Rattle.set_rules.specs.State.{newSet};
-ghost use Rattle.set_rules.specs.Feeds.{stepOf};
-ghost use Rattle.plain_set.specs.Plain.{setIn, plainOf, flagOf};
+ghost use Rattle.plain_set.specs.Plain.{plainOf, flagOf};
 ghost use Rattle.controller.specs.Memory.{setSize, setAlign, layoutNow, isCurrent, Keeps, KeepsIn};
 
 // The answer to an entry, with the set as numbers.
@@ -29,7 +27,7 @@ fn new_plain() -> PlainSet
 
 // A refused entry leaves every number as it is, even of a set that nobody made, and no entry changes how the memory begins.
 fn step_plain(plain: PlainSet, entry: &[u8], buffer: &mut [u8]) -> Kept
-    ensures { λ r. ⌜ Keeps plain (stepOf (setIn plain) (now (entry .entry)) (length (now (buffer .entry)))) r (now (buffer .entry)) (now (buffer .exit)) ⌝ }
+    ensures { λ r. ⌜ Keeps plain (now (entry .entry)) r (now (buffer .entry)) (now (buffer .exit)) ⌝ }
 {
     let set = plain_set::set_in(plain);
     let a = line_set::step(set, entry, buffer);
@@ -104,7 +102,7 @@ pub extern "C" fn imjauska_step(
     buffer: &mut [u8],
     count: &mut usize,
 ) -> u8
-    ensures { λ r. ⌜ KeepsIn (now (set .entry)) (stepOf (setIn (now (set .entry))) (now (entry .entry)) (length (now (buffer .entry)))) r (now (count .exit)) (now (set .exit)) (now (buffer .entry)) (now (buffer .exit)) ⌝ }
+    ensures { λ r. ⌜ KeepsIn (now (set .entry)) (now (entry .entry)) r (now (count .exit)) (now (set .exit)) (now (buffer .entry)) (now (buffer .exit)) ⌝ }
 {
     let a = step_plain(*set, entry, buffer);
     *set = a.set;

@@ -2,6 +2,7 @@
 ghost use mathlib.Core.Path.{_≡_};
 ghost use mathlib.Core.Bool.{true};
 ghost use Prim.Native.Nat.{_+_, _≤_};
+ghost use Rattle.replay.specs.Places.{Behind};
 
 // The entry lies in the input from `from` to `to`, and the input is filled up to `filled`. So many entries are answered
 // as `number` says, and the first `waits` bytes of the text are still to be written. Where the program is to stop, it is
@@ -33,7 +34,7 @@ impl Place {
     // The entry of so many bytes behind this one.
     pub fn next(self, size: usize) -> Place
         requires { ⌜ self .to + size ≤ self .filled ⌝ }
-        ensures { λ r. ⌜ (r .from ≡ self .to) × (r .to ≡ self .to + size) × (r .going ≡ true) × (r .filled ≡ self .filled) × (r .number ≡ self .number) × (r .waits ≡ self .waits) ⌝ }
+        ensures { λ r. ⌜ Behind self size r ⌝ }
     {
         Place {
             from: self.to,

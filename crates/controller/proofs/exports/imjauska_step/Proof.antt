@@ -40,10 +40,7 @@ use denote.Triple.Table.{entered, cited}
 use denote.Triple.Walked.{says, Stays, stay-ref, stay-none-slice, gave-slice, walkOf, AllGo, goes-none-slice, goes-gave-slice, goes-ref, Walks, ends-at, walked, walk-meets}
 use denote.Exit.{yes}
 use lib.ListN.{length}
-use Rattle.telegram.specs.Telegram.{over}
-use Rattle.set_rules.specs.Feeds.{stepOf}
-use Rattle.plain_set.specs.Plain.{setIn}
-use Rattle.controller.specs.Memory.{keptOf}
+use Rattle.controller.specs.Memory.{Keeps}
 use Rattle.plain_set.specs.declared.plain.PlainSet.{PlainSet}
 use Rattle.controller.specs.declared.exports.Kept.{Kept}
 use Rattle.plain_set.proofs.plain.PlainSet as T
@@ -67,10 +64,6 @@ Arg = RefT PlainSet × (L × (L × (RefT ℕ × Unit {0})))
 
 abbrev stayed : Stays (f.ended .signature .params) (f.ended .kept)
 stayed = (stay-ref (0 ∷ []) tt (plain (λ _. T.the-row)), (stay-none-slice (1 ∷ []) tt (plain (λ _. u8)) yes, (gave-slice (2 ∷ []) tt (plain (λ _. u8)), (stay-ref (3 ∷ []) tt (plain (λ _. usize)), tt))))
-
--- what `step_plain` ensures, of its result and the buffer's last list
-abbrev Says : PlainSet → List ℕ → List ℕ → Kept → List ℕ → Type 0
-Says h e y r z = (r ≡ keptOf h (stepOf (setIn h) e (length y))) × (z ≡ over (stepOf (setIn h) e (length y) .bytes) y)
 
 -- a set's machine value
 abbrev mach : PlainSet → Val
@@ -115,12 +108,12 @@ module _ {M : Type 1} (𝓤 : URA M) (H : Heap 𝓤) (A : Atoms 𝓤) (W : Given
   abbrev Post : Val → SProp 𝓤
   Post = walkOf 𝓤 H A f.ended stayed (f.clauses 𝓤 H A at-mem run) .post Ghost
 
-  exits : (r : Kept) (zs : List ℕ) → r .refusal < 2 ^ 8 → Says h (e .now) ys r zs → length zs ≡ length ys
+  exits : (r : Kept) (zs : List ℕ) → r .refusal < 2 ^ 8 → Keeps h (e .now) r ys zs → length zs ≡ length ys
       → ent 𝓤 (⋆ 𝓤 H A (‵ (fobs γ₃ (usize .coded .code (r .count))) ∷ ‵ (fbor κ₃ (Body (mem usize) b₃ o₃ γ₃)) ∷ ‵ (flft κ₃ q₃) ∷ ‵ (fobs γ (T.the-row .coded .code (r .set))) ∷ ‵ (fbor κ (Body (mem (T.the-row)) b o γ)) ∷ ‵ (flft κ q) ∷ (‵ (flft κ₁ q₁) ⊛ ‵ (flft κ₂ q₂) ⊛ ‵ ftrue) ∷ ‵ (finally u8 γ′ zs) ∷ ‵ Own ∷ [])) (Post (vint w8 (r .refusal)))
   exits r zs fits s l =
       qed W (‵ (fobs γ₃ (usize .coded .code (r .count))) ∷ ‵ (fbor κ₃ (Body (mem usize) b₃ o₃ γ₃)) ∷ ‵ (flft κ₃ q₃) ∷ ‵ (fobs γ (T.the-row .coded .code (r .set))) ∷ ‵ (fbor κ (Body (mem (T.the-row)) b o γ)) ∷ ‵ (flft κ q) ∷ (‵ (flft κ₁ q₁) ⊛ ‵ (flft κ₂ q₂) ⊛ ‵ ftrue) ∷ ‵ (finally u8 γ′ zs) ∷ ‵ Own ∷ []) ∵
       suffices ! _ (ends-at 𝓤 H A f.ended stayed (f.clauses 𝓤 H A at-mem run) W Ghost (vint w8 (r .refusal)) (r .refusal) (r .set, (tt, (zs, (r .count, tt)))) (tt, (tt, (l, (tt, tt))))) $
-      says ! (ap (λ (k : Kept). k .refusal) (s .0), (ap (λ (k : Kept). k .count) (s .0), (ap (λ (k : Kept). k .set) (s .0), s .1))) $
+      says ! s $
       -- the tokens
       move ! (6 ∷ []) $ split ! $ move ! (1 ∷ []) $ split ! $ move ! (5 ∷ 1 ∷ []) $ join ! $ move ! (1 ∷ 0 ∷ []) $ join ! $ move ! (1 ∷ 0 ∷ []) $ join ! $ move ! (5 ∷ 0 ∷ []) $ join ! $ frame ! $
       -- what is had of the parameters, from the last to the first
@@ -160,8 +153,8 @@ module _ {M : Type 1} (𝓤 : URA M) (H : Heap 𝓤) (A : Atoms 𝓤) (W : Given
         nothing ! $ move ! (8 ∷ 0 ∷ []) $ join ! $ move ! (8 ∷ 0 ∷ []) $ join ! $ use2 W (raw (Step 𝓤 H A at-mem run .pre to-step)) goes-step $
         calls-at ! fm (Step 𝓤 H A at-mem run) known to-step (and-then ! (load ! (from ! (stop !)) (look ! 12 refl)) (and-then ! (load ! (from ! (stop !)) (look ! 20 refl)) (and-then ! (load ! (from ! (stop !)) (look ! 8 refl)) (no-more !)))) (λ v.
         use1 W (later (some (λ (r : Kept). ((‵ (flft κ₁ q₁) ⊛ ‵ (flft κ₂ q₂) ⊛ ‵ ftrue) ⊛ ‵ (TK.the-row .own r (v ∷ []))) ⊛ raw (ensured 𝓤 H A step.ended (step.clauses 𝓤 H A at-mem run) (κ₁, (κ₂, tt)) (h, (e, (y, tt))) tt r)))) (id⊢ 𝓤 _) $ await ! tt $ pick ! (λ r.
-        split ! $ move ! (1 ∷ []) $ use1 W (some (λ (zs : Unit {0} × (Unit {0} × (List ℕ × Unit {0}))). ‵ (lasts step.ended (κ₁, (κ₂, tt)) (h, (e, (y, tt))) zs) ⊛ raw (fact 𝓤 (Says h (e .now) ys r (zs .1 .1 .0))))) (id⊢ 𝓤 _) $ pick ! (λ zs.
-        split ! $ move ! (1 ∷ []) $ heard ! (Says h (e .now) ys r (zs .1 .1 .0)) (λ s. fsplit ! $ drop ! $ fsplit ! $ drop ! $ fsplit ! $ fsplit ! $ move ! (1 ∷ []) $ feqL ! (λ l.
+        split ! $ move ! (1 ∷ []) $ use1 W (some (λ (zs : Unit {0} × (Unit {0} × (List ℕ × Unit {0}))). ‵ (lasts step.ended (κ₁, (κ₂, tt)) (h, (e, (y, tt))) zs) ⊛ raw (fact 𝓤 (Keeps h (e .now) r ys (zs .1 .1 .0))))) (id⊢ 𝓤 _) $ pick ! (λ zs.
+        split ! $ move ! (1 ∷ []) $ heard ! (Keeps h (e .now) r ys (zs .1 .1 .0)) (λ s. fsplit ! $ drop ! $ fsplit ! $ drop ! $ fsplit ! $ fsplit ! $ move ! (1 ∷ []) $ feqL ! (λ l.
         move ! (2 ∷ []) $ split ! $ move ! (1 ∷ []) $ peeks ! TK.the-row (Is TK.the-row) (shows 𝓤 H A TK.the-row) r (v ∷ []) (λ is.
         -- [what the answer owns; the slices' tokens; the last list; …; what e owns; the set's cell; the open borrow; obs; auth; κ₃; the count's; _8; …]
         land ! (from ! (stop !)) (init ! 17 refl (LL.lawful TK.the-type TK′.the-laws 𝓤 H A W .typed r _ is .0)) $
