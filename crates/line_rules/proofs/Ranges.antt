@@ -14,7 +14,7 @@ use Rattle.telegram.specs.Telegram.{num}
 use Rattle.telegram.specs.declared.message.Number.{Number}
 use Rattle.telegram.specs.declared.message.Message.the-variants.{CaptureState as State}
 use Rattle.channel.specs.State.{isHeld, heldBy, isPresent}
-use Rattle.line_rules.specs.Rules.{Step, step, happens, capture, captureAt, cut, release, pressOn, pressOff, mobileOn, mobileOff, tick, tickIdle, tickQuiet, tickRelease, freed, endTalk, endCall, isPressed, general, openedBy, openingSends, startOf, endOf, kindOf, pressOffSends, pressCall, mobileCall, mobileOffSends, freedSends, mobileRecipients}
+use Rattle.line_rules.specs.Rules.{Step, step, happens, capture, captureAt, cut, release, pressOn, pressOff, mobileOn, mobileOff, tick, tickIdle, tickQuiet, tickRelease, freed, endTalk, endCall, isPressed, general, openedBy, openingSends, callSends, endOf, kindOf, pressOffSends, pressCall, mobileCall, mobileOffSends, freedSends, mobileRecipients}
 use Rattle.line_rules.specs.Notices.{telegram}
 use Rattle.channel.specs.declared.state.Party.{Party}
 use Rattle.channel.specs.declared.state.Party.the-variants.{Nobody, By}
@@ -98,9 +98,12 @@ module _ (e : ℕ) (c : Channel) (ok : InRange c) where
   kind-ok Closed o = refl
   kind-ok (Open k d m b s) o = o .kind-is
 
+  call-sends-ok : (t r : ℕ) → t ≤ 1 → r ≤ 3 → (k : Call) → CallOk k → SendsOk (callSends t r k)
+  call-sends-ok t r l h Closed o = tt
+  call-sends-ok t r l h (Open k d m b s) o = ((o, l, h), tt)
+
   end-ok : (r : ℕ) → r ≤ 3 → (k : Call) → CallOk k → SendsOk (endOf r k)
-  end-ok r h Closed o = tt
-  end-ok r h (Open k d m b s) o = ((o, omega arith, h), tt)
+  end-ok r h = call-sends-ok 0 r (omega arith) h
 
   press-off-ok : (p : Party) → SendsOk (pressOffSends p (c .call))
   press-off-ok Nobody = tt
@@ -153,12 +156,8 @@ module _ (e : ℕ) (c : Channel) (ok : InRange c) where
   opened-ok Closed new o p = p
   opened-ok (Open k d m b s) new o p = o
 
-  start-ok : (new : Call) → CallOk new → SendsOk (startOf new)
-  start-ok Closed p = tt
-  start-ok (Open k d m b s) p = ((p, omega arith, omega arith), tt)
-
   opening-ok : (k new : Call) → CallOk new → SendsOk (openingSends k new)
-  opening-ok Closed new p = start-ok new p
+  opening-ok Closed new p = call-sends-ok 1 0 (omega arith) (omega arith) new p
   opening-ok (Open k d m b s) new p = tt
 
   pressOn-ok : (d : ℕ) (n : Number) → NumberOk n → Ranged (pressOn d n c)

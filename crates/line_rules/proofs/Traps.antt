@@ -12,7 +12,7 @@ use Rattle.laws.proofs.Each.{each-append}
 use Rattle.laws.proofs.Tests.{either}
 use Rattle.telegram.specs.declared.message.Number.{Number}
 use Rattle.channel.specs.State.{only, isHeld, heldBy, holderPlace, isPresent}
-use Rattle.line_rules.specs.Rules.{Step, to, openingSends, endOf, pressOffSends, mobileOffSends, freedSends, capture, captureAt, cut, release, pressOn, pressCall, pressOff, mobileOn, mobileRecipients, mobileCall, mobileOff, tick, tickIdle, tickQuiet, tickRelease, isPressed, endTalk, endCall, happens}
+use Rattle.line_rules.specs.Rules.{Step, to, callSends, openingSends, endOf, pressOffSends, mobileOffSends, freedSends, capture, captureAt, cut, release, pressOn, pressCall, pressOff, mobileOn, mobileRecipients, mobileCall, mobileOff, tick, tickIdle, tickQuiet, tickRelease, isPressed, endTalk, endCall, happens}
 use Rattle.line_rules.specs.Promises.{GoesTo, OnToTheHolder, OffToTheTold, ToldAreKept, IsAbout, Concerned, AboutTheHolder, NumberForTheHolder, ArrivalOutlivesACut, OneTimerAtATime, TenAndAHundredAndThirty, quietly, sentByTicks}
 use Rattle.channel.specs.declared.state.Party.{Party}
 use Rattle.channel.specs.declared.state.Party.the-variants.{Nobody, By}
@@ -56,14 +56,13 @@ module _ (P : ℕ → Type 0) where
   abbrev Tells : Step → Type 0
   Tells st = Said (st .sends)
 
-  about-opening : (k new : Call) → Said (openingSends k new)
-  about-opening Closed Closed = tt
-  about-opening Closed (Open k w m b s) = (tt, tt)
-  about-opening (Open k w m b s) new = tt
+  about-call : (t r : ℕ) (k : Call) → Said (callSends t r k)
+  about-call t r Closed = tt
+  about-call t r (Open k w m b s) = (tt, tt)
 
-  about-end : (r : ℕ) (k : Call) → Said (endOf r k)
-  about-end r Closed = tt
-  about-end r (Open k w m b s) = (tt, tt)
+  about-opening : (k new : Call) → Said (openingSends k new)
+  about-opening Closed new = about-call 1 0 new
+  about-opening (Open k w m b s) new = tt
 
   about-press-off : (p : Party) (k : Call) → Said (pressOffSends p k)
   about-press-off Nobody k = tt
@@ -93,7 +92,7 @@ module _ (P : ℕ → Type 0) where
     unfolding cut
     about-cut =
         each-append (IsAbout P) (pressOffSends (c .presser) (c .call)) _ (about-press-off (c .presser) (c .call))
-        (each-append (IsAbout P) (endOf 1 (c .call)) (freedSends e c) (about-end 1 (c .call)) (holder, tt))
+        (each-append (IsAbout P) (endOf 1 (c .call)) (freedSends e c) (about-call 0 1 (c .call)) (holder, tt))
 
     about-release : (d : ℕ) → Tells (release e d c)
     unfolding release
@@ -105,12 +104,12 @@ module _ (P : ℕ → Type 0) where
         either Tells (isPressed c) _ _ tt
         (either Tells (isPresent (c .arrival)) _ _ tt
         (either Tells (ltb 0 (c .quiet)) _ _
-        (either Tells (leb (c .quiet) 1) _ _ (about-end 3 (c .call)) tt)
+        (either Tells (leb (c .quiet) 1) _ _ (about-call 0 3 (c .call)) tt)
         (either Tells (isHeld (c .holder)) _ _ (either Tells (leb (c .release) 1) _ _ (holder, tt) tt) tt)))
 
     about-endCall : Tells (endCall e c)
     unfolding endCall
-    about-endCall = each-append (IsAbout P) (endOf 2 (c .call)) _ (about-end 2 (c .call)) (either Said (isHeld (c .holder)) _ _ (holder, tt) tt)
+    about-endCall = each-append (IsAbout P) (endOf 2 (c .call)) _ (about-call 0 2 (c .call)) (either Said (isHeld (c .holder)) _ _ (holder, tt) tt)
 
 about-capture : (h : Party) (e d : ℕ) (c : Channel) → Tells (Concerned (Capture d) c) (captureAt h e d c)
 about-capture Nobody e d c = (tt, (inr refl, tt))

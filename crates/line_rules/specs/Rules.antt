@@ -99,20 +99,23 @@ openedBy (Open k d m b s) new = Open k d m b s
 
 -- ---- what is sent
 
--- "550473 start": to the call's recipients, reason 00
+-- a 550473, if a call is open, to the call's told set: 1 for its start or 0 for its end, and a reason
+abbrev pub callSends : ℕ → ℕ → Call → List Send
+callSends start reason Closed = []
+callSends start reason (Open k d m b s) = to m (CallNotice k d b s start reason) ∷ []
+
+-- "550473 start": reason 00
 abbrev pub startOf : Call → List Send
-startOf Closed = []
-startOf (Open k d m b s) = to m (CallNotice k d b s 1 0) ∷ []
+startOf = callSends 1 0
 
 -- "if no call is open, one opens .. with 550473 start"
 abbrev pub openingSends : Call → Call → List Send
 openingSends Closed new = startOf new
 openingSends (Open k d m b s) new = []
 
--- "550473 end", with a reason, to the call's told set
+-- "550473 end", with a reason
 abbrev pub endOf : ℕ → Call → List Send
-endOf reason Closed = []
-endOf reason (Open k d m b s) = to m (CallNotice k d b s 0 reason) ∷ []
+endOf = callSends 0
 
 -- the type of the talk in a call
 abbrev pub kindOf : Call → ℕ

@@ -14,7 +14,7 @@ use telegram::Number;
 ghost use mathlib.Core.Path.{_≡_};
 ghost use mathlib.Core.List.{[], _∷_};
 ghost use Rattle.channel.specs.State.{holderPlace};
-ghost use Rattle.line_rules.specs.Rules.{step, to, startOf, openingSends, endOf, mobileOffSends};
+ghost use Rattle.line_rules.specs.Rules.{step, to, callSends, openingSends, endOf, mobileOffSends};
 ghost use Rattle.sends.specs.Scripts.{Follows, heard, pressSends, mobileSends};
 ghost use Rattle.channel.specs.declared.state.Notice.the-variants.{CaptureState};
 
@@ -24,9 +24,9 @@ pub const SILENT: Send = Send {
     notice: Notice::PressAnswer { on: 0 },
 };
 
-// The start of a call.
-fn start(call: Call) -> Send
-    ensures { λ r. ⌜ heard (r ∷ []) ≡ heard (startOf call) ⌝ }
+// The start of a call (`start` is 1) or its end.
+fn of_call(start: u8, reason: u8, call: Call) -> Send
+    ensures { λ r. ⌜ heard (r ∷ []) ≡ heard (callSends start reason call) ⌝ }
 {
     match call {
         Call::Closed => SILENT,
@@ -43,8 +43,8 @@ fn start(call: Call) -> Send
                 direction,
                 base,
                 source,
-                start: 1,
-                reason: 0,
+                start,
+                reason,
             },
         },
     }
@@ -55,7 +55,7 @@ pub fn opening(call: Call, new: Call) -> Send
     ensures { λ r. ⌜ heard (r ∷ []) ≡ heard (openingSends call new) ⌝ }
 {
     match call {
-        Call::Closed => start(new),
+        Call::Closed => of_call(1, 0, new),
         Call::Open { .. } => SILENT,
     }
 }
@@ -64,26 +64,7 @@ pub fn opening(call: Call, new: Call) -> Send
 pub fn end(reason: u8, call: Call) -> Send
     ensures { λ r. ⌜ heard (r ∷ []) ≡ heard (endOf reason call) ⌝ }
 {
-    match call {
-        Call::Closed => SILENT,
-        Call::Open {
-            kind,
-            direction,
-            recipients,
-            base,
-            source,
-        } => Send {
-            recipients,
-            notice: Notice::Call {
-                kind,
-                direction,
-                base,
-                source,
-                start: 0,
-                reason,
-            },
-        },
-    }
+    of_call(0, reason, call)
 }
 
 // What is sent to a desk that presses (`on` is 1) or no longer does.

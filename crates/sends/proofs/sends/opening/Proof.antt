@@ -10,7 +10,7 @@ enum-told : tie.Need-enum-told
 enum-told c = search needs
 
 returns : tie.Need-returns
-returns c = rw (c .before .enum-told .given .1) (c .start .ensures)
+returns c = rw (c .before .enum-told .given .1) (c .of-call .ensures)
 
 returns-2 : tie.Need-returns-2
 unfolding heard
