@@ -44,10 +44,10 @@ fn put_own(part: &mut [u8], own: Own, d: u8, number: Number)
 {
     match own {
         Own::Nobody => {}
-        Own::Everyone => telegram_forms::put_number(part, 24, number.digits),
+        Own::Everyone => telegram_copies::put_number(part, 24, number.digits),
         Own::Holder(holder) => {
             if holder == d {
-                telegram_forms::put_number(part, 20, number.digits);
+                telegram_copies::put_number(part, 20, number.digits);
             }
         }
     }
@@ -58,7 +58,7 @@ fn put_telegram(part: &mut [u8], desk: Desk, d: u8, body: Body, own: Own, size: 
     requires { ⌜ (shapeOf body ≡ Shape.Telegram own size) × (now form ≡ formOf body) × (size ≤ 5 + length (now part)) ⌝ }
     ensures { λ _. ⌜ now (part .exit) ≡ written (now (part .entry)) 0 (restBytes (desk .code) (bodyFor d (desk .number) body)) ⌝ }
 {
-    telegram_forms::put_form(form, size - 5, desk.code, part);
+    telegram_copies::put_form(form, size - 5, desk.code, part);
     put_own(part, own, d, desk.number);
 }
 

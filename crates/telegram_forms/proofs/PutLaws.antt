@@ -34,17 +34,6 @@ put-digits zero t at v = rw digits-none
 put-digits (suc zero) t at v = rw (digits-suc, digits-none)
 put-digits (suc (suc w)) t at v = rw (put-digits (suc w) t at (v / 10), digits-suc (suc w) v, sets-append, length-digits)
 
--- four digits, by hundreds
-pub put-hundreds : (t : List ℕ) (at v : ℕ)
-    → set (set (set (set t at (48 + v / 100 % 100 / 10)) (at + 1) (48 + v / 100 % 100 % 10)) (at + 2) (48 + v % 100 / 10)) (at + 3) (48 + v % 100 % 10)
-    ≡ sets t at (digitsOf 4 v)
-put-hundreds t at v =
-    let a : v / 100 % 100 / 10 ≡ v / 10 / 10 / 10 % 10 = omega arith in
-    let b : v / 100 % 100 % 10 ≡ v / 10 / 10 % 10 = omega arith in
-    let c : v % 100 / 10 ≡ v / 10 % 10 = omega arith in
-    let d : v % 100 % 10 ≡ v % 10 = omega arith in
-    rw (a, b, c, d) (put-digits 4 t at v)
-
 -- two shorter fields are a longer one
 pub put-both : (a b : ℕ) (t : List ℕ) (at v : ℕ)
     → sets (sets t at (digitsOf a (shifted b v))) (at + a) (digitsOf b v) ≡ sets t at (digitsOf (a + b) v)

@@ -1,11 +1,7 @@
-// The written form of each telegram: digits, a function for each telegram that gives its bytes, and one that puts them into a
-// buffer under an organisation code.
-mod copying;
+// The written form of each telegram: digits, and a function for each telegram that gives its bytes.
 mod digits;
 mod messages;
 
-pub use copying::put_form;
-pub use copying::put_number;
 pub use messages::base_arrival_form;
 pub use messages::call_form;
 pub use messages::caller_notice_form;

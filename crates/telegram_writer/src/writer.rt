@@ -62,7 +62,7 @@ pub fn put(message: Message, code: u32, buffer: &mut [u8]) -> usize
 {
     let n = size(message);
     let bytes = form(message);
-    telegram_forms::put_form(&bytes, n, code, buffer);
+    telegram_copies::put_form(&bytes, n, code, buffer);
     n
 }
 

@@ -1,4 +1,4 @@
--- `telegram_forms::copying::copy` meets its contract. The invariant: the first `i` bytes are the telegram's, the others as they were.
+-- `telegram_copies::copying::copy` meets its contract. The invariant: the first `i` bytes are the telegram's, the others as they were.
 -- Assumes nothing.
 use borrow.Author.Needs.{needs}
 use Prim.Native.Nat.{ℕ, suc, _≤_, _<_, _-_}
@@ -8,8 +8,8 @@ use native.Mathlib.Omega.{arith}
 use native.Mathlib.Numerals.{add-one}
 use lib.ListN.{length, getD, take, drop, set, length-set}
 use lib.Seq.{take-suc, drop-cons, set-at, length-take-le}
-use Rattle.telegram_forms.proofs.copying.copy.Statement.{statement}
-use Rattle.telegram_forms.proofs.copying.copy.Tie as tie
+use Rattle.telegram_copies.proofs.copying.copy.Statement.{statement}
+use Rattle.telegram_copies.proofs.copying.copy.Tie as tie
 
 -- one more byte of a telegram over the front of a buffer
 copy-turn : (t b : List ℕ) (i : ℕ) → i < length t → i < length b

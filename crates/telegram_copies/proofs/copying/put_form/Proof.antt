@@ -1,8 +1,8 @@
--- `telegram_forms::copying::put_form` meets its contract: a copy, and the code's digits.
+-- `telegram_copies::copying::put_form` meets its contract: a copy, and the code's digits.
 -- Assumes nothing.
 use borrow.Author.Needs.{needs}
-use Rattle.telegram_forms.proofs.copying.put_form.Statement.{statement}
-use Rattle.telegram_forms.proofs.copying.put_form.Tie as tie
+use Rattle.telegram_copies.proofs.copying.put_form.Statement.{statement}
+use Rattle.telegram_copies.proofs.copying.put_form.Tie as tie
 
 returns : tie.Need-returns
 returns c = rw (c .before .before .before .before .before .before .copy .ensures) at (c .before .before .put-four .ensures)

@@ -1,9 +1,9 @@
--- `telegram_forms::copying::put_number` meets its contract: the first four digits, and then the last four.
+-- `telegram_copies::copying::put_number` meets its contract: the first four digits, and then the last four.
 -- Assumes nothing.
 use borrow.Author.Needs.{needs}
 use Rattle.telegram_forms.proofs.PutLaws.{put-both}
-use Rattle.telegram_forms.proofs.copying.put_number.Statement.{statement}
-use Rattle.telegram_forms.proofs.copying.put_number.Tie as tie
+use Rattle.telegram_copies.proofs.copying.put_number.Statement.{statement}
+use Rattle.telegram_copies.proofs.copying.put_number.Tie as tie
 
 returns : tie.Need-returns
 returns c = rw (c .before .before .put-four2 .ensures, c .before .before .before .before .before .before .put-four .ensures) (put-both 4 4 _ _ _)
