@@ -27,12 +27,13 @@ use Rattle.set_rules.specs.declared.state.LineSet.{LineSet}
 use Rattle.set_rules.specs.declared.state.LinkRequest.{LinkRequest}
 use Rattle.set_rules.specs.declared.state.Request.{Request}
 use Rattle.set_rules.specs.declared.state.Request.the-variants.{OfLink as LinkIs, OnChannel as ChannelIs, Foreign}
-use Rattle.requests.specs.Asking.{seen, early, late, asking, eventOf, askedOf}
-use Rattle.requests.specs.Judging.{refusalBy}
+use Rattle.requests.specs.Asking.{seen, early, asking, eventOf, askedOf}
 use Rattle.requests.specs.declared.request.Asked.{Asked}
 use Rattle.requests.specs.declared.request.Asked.the-variants.{Refusal, OfLink, OnChannel}
 use Rattle.requests.proofs.Asked.{foreign-refused}
-use Rattle.requests.proofs.Rows.{OfLine, late-ask, late-line}
+use Rattle.judging.specs.Judging.{late, refusalBy}
+use Rattle.judging.specs.Promises.{OfLine}
+use Rattle.judging.proofs.Kept.{late-ask, late-line}
 use Rattle.changes.specs.Changes.{setWith, Stands, Asks}
 
 -- ---- the table in two parts

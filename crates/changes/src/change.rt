@@ -72,7 +72,7 @@ pub fn change_of(
 {
     let desk = set_rules::desk_at(desks, x.desk);
     let own = desk.number;
-    let refusal = requests::judge(x, number, own, found, c);
+    let refusal = judging::judge(x, number, own, found, c);
     if refusal != 0 {
         return refuse(c, refusal);
     }

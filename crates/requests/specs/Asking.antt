@@ -3,7 +3,7 @@ use Prim.Native.Nat.{ℕ}
 use mathlib.Core.List.{List}
 use mathlib.Core.Bool.{Bool, cond}
 use lib.Dec.{eqb}
-use lib.ListN.{take, drop}
+use lib.ListN.{take}
 use Rattle.telegram.specs.Telegram.{num, readTelegram}
 use Rattle.telegram.specs.declared.message.Number.{Number}
 use Rattle.telegram.specs.declared.message.Reading.{Reading}
@@ -26,12 +26,9 @@ use Rattle.requests.specs.declared.request.Asked.the-variants.{Refusal, 
 abbrev pub seen : Bool → List Desk → ℕ → Bool → Channel → Lookup
 seen planned ds n found c = record { planned = planned; desks = ds; count = n; found = found; channel = c }
 
--- the rows 4 to 11, which do not look at a channel, and those behind them
+-- the rows 4 to 11, which do not look at a channel
 abbrev pub early : List (ℕ × Test)
 early = take 8 table
-
-abbrev pub late : List (ℕ × Test)
-late = drop 8 table
 
 -- what a request asks; one that no desk sends is 9
 abbrev pub asking : Request → Asked

@@ -3,7 +3,7 @@
 use mathlib.Core.Path.{sym, ap, _∙_}
 use denote.Ref.{now}
 use lib.ListN.{length}
-use Rattle.requests.specs.Judging.{refusalBy}
+use Rattle.judging.specs.Judging.{refusalBy}
 use Rattle.set_rules.specs.declared.state.Desk.{Desk}
 use Rattle.changes.specs.Changes.{setWith}
 use Rattle.changes.proofs.Changing.{gives-as, refused}

@@ -1,14 +1,20 @@
--- The rows from 12 on, once the kind is known: what the functions that judge give. That they are the table's is `late-rows`
--- (`proofs/Rows.antt`).
+-- The rows from 12 on, once the kind is known: what the functions that judge give. That they are the table's is promised
+-- (`LateAsk`, `LateLine`).
 use Prim.Native.Nat.{ℕ}
+use mathlib.Core.List.{List}
 use mathlib.Core.Bool.{Bool, _&&_, _||_, not, cond}
 use lib.Dec.{eqb}
+use lib.ListN.{drop}
 use Rattle.telegram.specs.declared.message.Number.{Number}
 use Rattle.channel.specs.State.{isIn, heldBy, isPresent}
 use Rattle.channel.specs.declared.state.Channel.{Channel}
 use Rattle.line_rules.specs.Rules.{isPressed}
-use Rattle.set_rules.specs.Refusals.{isKind, isCaller}
+use Rattle.set_rules.specs.Refusals.{Test, table, isKind, isCaller}
 use Rattle.set_rules.specs.declared.state.Entry.{Entry}
+
+-- the table behind the rows 4 to 11, which do not look at a channel
+abbrev pub late : List (ℕ × Test)
+late = drop 8 table
 
 -- a telegram of desk d: the number that it gives, and the desk's own
 abbrev pub askRefusal : ℕ → Number → Number → Bool → Channel → ℕ

@@ -1,9 +1,9 @@
--- `requests::judging::judge` meets its contract: a telegram, press and cut, or mobile on and off.
+-- `judging::judging::judge` meets its contract: a telegram, press and cut, or mobile on and off.
 -- Assumes nothing.
 use borrow.Author.Tests.{eq-eqb, ne-eqb}
 use borrow.Author.Needs.{needs}
-use Rattle.requests.proofs.judging.judge.Statement.{statement}
-use Rattle.requests.proofs.judging.judge.Tie as tie
+use Rattle.judging.proofs.judging.judge.Statement.{statement}
+use Rattle.judging.proofs.judging.judge.Tie as tie
 
 returns : tie.Need-returns
 returns c = rw (eq-eqb _ _ (c .before .if1 .taken)) (c .judge-ask .ensures)

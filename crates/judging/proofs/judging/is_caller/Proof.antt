@@ -1,9 +1,9 @@
--- `requests::judging::is_caller` meets its contract, case by case.
+-- `judging::judging::is_caller` meets its contract, case by case.
 -- Assumes nothing.
 use mathlib.Core.Path.{refl}
 use borrow.Author.Needs.{needs}
-use Rattle.requests.proofs.judging.is_caller.Statement.{statement}
-use Rattle.requests.proofs.judging.is_caller.Tie as tie
+use Rattle.judging.proofs.judging.is_caller.Statement.{statement}
+use Rattle.judging.proofs.judging.is_caller.Tie as tie
 
 enum-told : tie.Need-enum-told
 enum-told c = search needs

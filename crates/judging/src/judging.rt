@@ -9,7 +9,7 @@ ghost use mathlib.Core.Bool.{cond};
 ghost use lib.Dec.{eqb};
 ghost use Rattle.channel.specs.State.{isHeld};
 ghost use Rattle.set_rules.specs.Refusals.{isCaller};
-ghost use Rattle.requests.specs.Judging.{askRefusal, pressRefusal, mobileRefusal, refusalBy};
+ghost use Rattle.judging.specs.Judging.{askRefusal, pressRefusal, mobileRefusal, refusalBy};
 
 fn is_caller(number: Digits) -> bool
     ensures { λ r. ⌜ r ≡ isCaller number ⌝ }

@@ -1,9 +1,9 @@
--- `requests::judging::is_again` meets its contract, test by test.
+-- `judging::judging::is_again` meets its contract, test by test.
 -- Assumes nothing.
 use mathlib.Core.Path.{refl, sym, _∙_}
 use borrow.Author.Needs.{needs}
-use Rattle.requests.proofs.judging.is_again.Statement.{statement}
-use Rattle.requests.proofs.judging.is_again.Tie as tie
+use Rattle.judging.proofs.judging.is_again.Statement.{statement}
+use Rattle.judging.proofs.judging.is_again.Tie as tie
 
 returns : tie.Need-returns
 returns c = rw (sym (c .before .is-held .ensures) ∙ c .if1 .taken) refl

@@ -1,10 +1,10 @@
--- `requests::judging::judge_press` meets its contract, test by test.
+-- `judging::judging::judge_press` meets its contract, test by test.
 -- Assumes nothing.
 use mathlib.Core.Path.{refl, sym, _∙_}
 use borrow.Author.Tests.{eq-eqb, ne-eqb, not-true, not-false}
 use borrow.Author.Needs.{needs}
-use Rattle.requests.proofs.judging.judge_press.Statement.{statement}
-use Rattle.requests.proofs.judging.judge_press.Tie as tie
+use Rattle.judging.proofs.judging.judge_press.Statement.{statement}
+use Rattle.judging.proofs.judging.judge_press.Tie as tie
 
 returns : tie.Need-returns
 returns c = simp (not-true (c .before .args .found) (c .if1 .taken)) refl

@@ -1,0 +1,4 @@
+// How an entry about one channel is judged: the refusals from 12 to 15.
+mod judging;
+
+pub use judging::judge;
