@@ -10,7 +10,7 @@ use lib.Count.{onesIn, ones, ones-step}
 use lib.Dec.{eqb, lit≤}
 use lib.ListN.{replicate}
 use lib.Seq.{sets}
-use Rattle.fields.specs.Digits.{digitsOf}
+use Rattle.numerals.specs.Digits.{digitsOf}
 use Rattle.telegram.specs.Telegram.{sizeOf, num, telegramOf}
 use Rattle.telegram.specs.declared.message.Number.{Number}
 use Rattle.telegram.specs.declared.message.Message.{Message}

@@ -5,7 +5,7 @@ use mathlib.Core.Bool.{cond}
 use lib.Dec.{eqb}
 use lib.ListN.{replicate}
 use lib.Seq.{sets}
-use Rattle.fields.specs.Digits.{digitsOf}
+use Rattle.numerals.specs.Digits.{digitsOf}
 use Rattle.telegram.specs.Telegram.{telegramOf, num}
 use Rattle.telegram.specs.declared.message.Number.{Number}
 use Rattle.telegram.specs.declared.message.Message.the-variants.{TimeRequest as AskTime, OperationRequest as AskOperation}

@@ -4,7 +4,7 @@ use mathlib.Core.List.{List}
 use mathlib.Core.Bool.{cond}
 use lib.Dec.{eqb}
 use lib.ListN.{length}
-use Rattle.fields.specs.declared.digits.Digits.the-variants.{Malformed}
+use Rattle.numerals.specs.declared.digits.Digits.the-variants.{Malformed}
 use Rattle.set_rules.specs.Entries.{bad, asks, payload, payloadOk}
 use Rattle.set_rules.specs.declared.state.Entry.{Entry}
 

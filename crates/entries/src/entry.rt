@@ -1,8 +1,8 @@
 // Entries: the length, the version, the kind, and what the kind's payload has.
-use fields::Digits;
+use numerals::Digits;
 use set_rules::Entry;
 ghost use mathlib.Core.Path.{_≡_};
-ghost use Rattle.fields.specs.declared.digits.Digits.the-variants.{Malformed};
+ghost use Rattle.numerals.specs.declared.digits.Digits.the-variants.{Malformed};
 ghost use Rattle.set_rules.specs.Entries.{measured, bad, asks, readEntry};
 ghost use Rattle.entries.specs.Payloads.{payloadIn, bareIn};
 
@@ -80,7 +80,7 @@ fn read_mobile_on(entry: &[u8]) -> Entry
     if 29 < base {
         return refused(3);
     }
-    let number = fields::read_digits(&entry[6..14]);
+    let number = numerals::read_digits(&entry[6..14]);
     Entry {
         refusal: 0,
         kind: 4,

@@ -5,7 +5,7 @@ use mathlib.Core.Bool.{true, false, _&&_, cond}
 use lib.Dec.{leb, eqb}
 use lib.ListN.{length, take, drop, getD, replicate}
 use lib.Seq.{sets}
-use Rattle.fields.specs.Digits.{allDigits, valueOf}
+use Rattle.numerals.specs.Held.{asNumber}
 use Rattle.fields.specs.Fields.{Field, plain, code, channel, base, callType, direction, reason, len, flag, year, month, day, hour, minute, bodyOk, valuesIn, allIn, bodySize}
 use Rattle.fields.specs.declared.lists.Fields.{Fields}
 
@@ -31,10 +31,6 @@ abbrev pub fieldsIn : List Field → List ℕ → Fields
 fieldsIn fs b = cond (leb (length fs) 11 && bodyOk fs 0 0 b) (record { ok = true; values = padded (valuesIn fs b) }) noFields
 
 -- ---- a reader in a straight line
-
--- the number that bytes spell, or one above any that nine digits spell
-abbrev pub asNumber : List ℕ → ℕ
-asNumber bs = cond (allDigits bs) (valueOf bs) 1000000000
 
 -- what the bytes of each field spell
 unfoldable pub asNumbers : List Field → List ℕ → List ℕ

@@ -1,67 +1,13 @@
--- What is promised of digit fields and of lists of fields, beside the contracts. `proofs/Kept.antt` has the proof of each
+-- What is promised of lists of fields, beside the contracts. `proofs/Kept.antt` has the proof of each
 -- under the name given with it, and is the one module of the proofs that other crates cite.
-use Prim.Native.Nat.{ℕ, zero, suc, _+_, _/_, _%_, _^_, _≤_, _<_}
-use mathlib.Core.List.{List, [], _∷_, _++_}
-use mathlib.Core.Bool.{true, false, cond}
+use Prim.Native.Nat.{ℕ, _≤_}
+use mathlib.Core.List.{List}
+use mathlib.Core.Bool.{true, false}
 use mathlib.Core.Path.{_≡_}
-use lib.Dec.{ltb}
 use lib.ListN.{length}
-use Rattle.fields.specs.Digits.{digitsOf, allDigits, valueOf, digitsIn}
 use Rattle.fields.specs.Fields.{Field, bodyOk, valuesIn, allIn, bytesOf, bodySize}
-use Rattle.fields.specs.Held.{fieldsOf, padded, fieldsIn, asNumber, fieldsBySpelling}
-use Rattle.fields.specs.declared.digits.Digits.the-variants.{Value, Malformed}
+use Rattle.fields.specs.Held.{fieldsOf, padded, fieldsIn, fieldsBySpelling}
 use Rattle.fields.specs.declared.lists.Fields.{Fields}
-
--- ---- digits
-
--- A number at a width has that many digits (`length-digits`), and they are digits (`digits-digits`).
-abbrev pub AsWide : Type 0
-AsWide = (w v : ℕ) → length (digitsOf w v) ≡ w
-
-abbrev pub AreDigits : Type 0
-AreDigits = (w v : ℕ) → allDigits (digitsOf w v) ≡ true
-
--- The digits of a number, digit by digit (`digits-none`, `digits-suc`).
-abbrev pub NoDigits : Type 0
-NoDigits = (v : ℕ) → digitsOf 0 v ≡ []
-
-abbrev pub LastDigit : Type 0
-LastDigit = (w v : ℕ) → digitsOf (suc w) v ≡ digitsOf w (v / 10) ++ ((48 + v % 10) ∷ [])
-
--- v without its last b digits
-abbrev pub shifted : ℕ → ℕ → ℕ
-shifted zero v = v
-shifted (suc b) v = shifted b (v / 10)
-
--- A field is a shorter one and the rest of it (`digits-split`).
-abbrev pub InTwo : Type 0
-InTwo = (a b v : ℕ) → digitsOf (a + b) v ≡ digitsOf a (shifted b v) ++ digitsOf b v
-
--- A number that the width can hold is what its digits spell (`value-digits`).
-abbrev pub SpellBack : Type 0
-SpellBack = (w v : ℕ) → v < 10 ^ w → valueOf (digitsOf w v) ≡ v
-
--- Digits are those of the number that they spell (`digits-value`), which their count bounds (`value-below`).
-abbrev pub OneSpelling : Type 0
-OneSpelling = (bs : List ℕ) → allDigits bs ≡ true → digitsOf (length bs) (valueOf bs) ≡ bs
-
-abbrev pub SpellBelow : Type 0
-SpellBelow = (bs : List ℕ) → allDigits bs ≡ true → valueOf bs < 10 ^ length bs
-
--- Of any bytes the reader finds a number in digits alone, the one that they spell (`value-found`), and of at most nine it
--- refuses only those that are not all digits (`malformed-found`).
-abbrev pub DigitsFound : Type 0
-DigitsFound = (bs : List ℕ) (v : ℕ) → digitsIn bs ≡ Value v → (allDigits bs ≡ true) × (valueOf bs ≡ v)
-
-abbrev pub DigitsRefused : Type 0
-DigitsRefused = (bs : List ℕ) → length bs ≤ 9 → digitsIn bs ≡ Malformed → allDigits bs ≡ false
-
--- At most nine bytes read alike from the number that they spell (`digits-spelt`).
-abbrev pub DigitsBySpelling : Type 0
-DigitsBySpelling =
-    (bs : List ℕ) → length bs ≤ 9 → digitsIn bs ≡ cond (ltb (asNumber bs) (10 ^ length bs)) (Value (asNumber bs)) Malformed
-
--- ---- lists of fields
 
 -- What is written is as long as its fields are wide (`length-bytes`).
 abbrev pub AsLong : Type 0

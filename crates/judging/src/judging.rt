@@ -1,7 +1,7 @@
 // The refusals from 12 on, by the channel that an entry names.
 use channel::Channel;
 use channel::Party;
-use fields::Digits;
+use numerals::Digits;
 use set_rules::Entry;
 use telegram::Number;
 ghost use mathlib.Core.Path.{_≡_};

@@ -4,7 +4,7 @@ use mathlib.Core.List.{List}
 use mathlib.Core.Bool.{Bool, true, false, _&&_, cond}
 use lib.Dec.{eqb}
 use lib.ListN.{length, take, drop, replicate}
-use Rattle.fields.specs.Digits.{valueOf}
+use Rattle.numerals.specs.Digits.{valueOf}
 use Rattle.fields.specs.Fields.{between}
 use Rattle.telegram.specs.Telegram.{num}
 use Rattle.set_rules.specs.State.{newLink, noDesk, noChannel, newSet}

@@ -1,5 +1,5 @@
 // The desks of a plan.
-use fields::Digits;
+use numerals::Digits;
 use set_rules::Desk;
 use set_rules::Link;
 use telegram::Number;
@@ -41,7 +41,7 @@ fn read_desk(s: &[u8]) -> DeskRead
     if 1023 < code {
         return DeskRead::Bad;
     }
-    let d = fields::read_digits(&s[2..10]);
+    let d = numerals::read_digits(&s[2..10]);
     let Digits::Value(digits) = d else {
         return DeskRead::Bad;
     };

@@ -9,7 +9,7 @@ use native.Mathlib.Omega.{arith}
 use lib.ListN.{length, take, drop, getD}
 use lib.Seq.{sets, length-sets}
 use borrow.Author.Tests.{eq-eqb, ne-eqb}
-use Rattle.fields.specs.Digits.{digitsOf}
+use Rattle.numerals.specs.Digits.{digitsOf}
 use Rattle.telegram.specs.Telegram.{sizeOf, num, telegramOf}
 use Rattle.telegram.specs.declared.message.Number.{Number}
 use Rattle.telegram.proofs.Kept.{length-telegram}

@@ -1,6 +1,6 @@
 // What an entry asks of the set about one desk's link or one channel. Only here is a whole message taken apart.
 use channel::Event;
-use fields::Digits;
+use numerals::Digits;
 use set_rules::Desk;
 use set_rules::Entry;
 use set_rules::LinkRequest;

@@ -11,7 +11,7 @@ use lib.ListN.{length, getD, take, drop, set, length-map, List·getD-map}
 use lib.Seq.{getD-take}
 use borrow.Author.Tests.{ne-eqb}
 use Rattle.laws.proofs.Lists.{take-map, drop-map, map-set}
-use Rattle.fields.specs.declared.digits.Digits.{Digits}
+use Rattle.numerals.specs.declared.digits.Digits.{Digits}
 use Rattle.telegram.specs.declared.message.Number.{Number}
 use Rattle.telegram.specs.Telegram.{readTelegram}
 use Rattle.telegram.specs.declared.message.Reading.{Reading}

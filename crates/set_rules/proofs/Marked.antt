@@ -2,7 +2,7 @@
 -- Assumes nothing.
 use mathlib.Core.Path.{refl}
 use lib.Count.{onesIn}
-use Rattle.fields.specs.Digits.{digitsOf, allDigits, valueFrom}
+use Rattle.numerals.specs.Digits.{digitsOf, allDigits, valueFrom}
 use Rattle.fields.specs.Fields.{bodyOk, valuesIn, bytesOf}
 use Rattle.telegram.specs.Telegram.{headerOk, readTelegram, telegramOf}
 use Rattle.telegram.specs.Promises.{spelled}

@@ -12,15 +12,15 @@ use borrow.Author.Tests.{leb-true, le-leb, eqb-true, eqb-false, eq-eqb}
 use Rattle.laws.specs.Each.{Each}
 use Rattle.laws.proofs.Each.{_▹_, each-at, each-set, each-take, each-drop, each-append, each-same}
 use Rattle.laws.proofs.Tests.{both, by-test}
-use Rattle.fields.specs.Digits.{allDigits, valueOf, digitsIn}
+use Rattle.numerals.specs.Digits.{allDigits, valueOf, digitsIn}
 use Rattle.fields.specs.Fields.{allIn, between}
-use Rattle.fields.specs.declared.digits.Digits.the-variants.{Value, Malformed}
+use Rattle.numerals.specs.declared.digits.Digits.the-variants.{Value, Malformed}
 use Rattle.telegram.specs.Telegram.{num, inRange, readTelegram, telegramOf}
 use Rattle.telegram.specs.declared.message.Message.{Message}
 use Rattle.telegram.specs.declared.message.Message.the-variants.{TimeNotice, OperationAnswer, TimeRequest, BaseArrival, OperationRequest, Call, CallerNotice, CaptureRequest, CaptureReply, CaptureState}
 use Rattle.telegram.specs.declared.message.Reading.{Reading}
 use Rattle.telegram.specs.declared.message.Reading.the-variants.{Telegram, Refused}
-use Rattle.fields.proofs.Kept.{value-below}
+use Rattle.numerals.proofs.Kept.{value-below}
 use Rattle.telegram.proofs.Kept.{reads-back}
 use Rattle.channel.specs.State.{only, firstDesks, heldBy}
 use Rattle.channel.specs.declared.state.Party.{Party}

@@ -6,7 +6,7 @@ use mathlib.Core.Path.{_≡_, refl, ap}
 use native.Mathlib.Omega.{arith}
 use lib.Count.{onesIn}
 use lib.ListN.{getD}
-use Rattle.fields.specs.Digits.{digitsOf, allDigits, valueFrom}
+use Rattle.numerals.specs.Digits.{digitsOf, allDigits, valueFrom}
 use Rattle.fields.specs.Fields.{bodyOk, valuesIn, bytesOf}
 use Rattle.telegram.specs.Telegram.{headerOk, readTelegram, telegramOf}
 use Rattle.telegram.specs.Promises.{spelled}

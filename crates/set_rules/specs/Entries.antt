@@ -4,9 +4,9 @@ use mathlib.Core.List.{List, [], _∷_}
 use mathlib.Core.Bool.{Bool, true, false, _&&_, cond}
 use lib.Dec.{eqb, leb}
 use lib.ListN.{length, take, drop, getD}
-use Rattle.fields.specs.Digits.{digitsIn}
-use Rattle.fields.specs.declared.digits.Digits.{Digits}
-use Rattle.fields.specs.declared.digits.Digits.the-variants.{Malformed}
+use Rattle.numerals.specs.Digits.{digitsIn}
+use Rattle.numerals.specs.declared.digits.Digits.{Digits}
+use Rattle.numerals.specs.declared.digits.Digits.the-variants.{Malformed}
 use Rattle.laws.specs.Table.{pick}
 use Rattle.set_rules.specs.declared.state.Entry.{Entry}
 

@@ -4,8 +4,8 @@ use mathlib.Core.List.{List, [], _∷_}
 use mathlib.Core.Bool.{Bool, true, false, _&&_, _||_, not, cond}
 use lib.Dec.{eqb, ltb}
 use lib.ListN.{getD}
-use Rattle.fields.specs.declared.digits.Digits.{Digits}
-use Rattle.fields.specs.declared.digits.Digits.the-variants.{Value, Malformed}
+use Rattle.numerals.specs.declared.digits.Digits.{Digits}
+use Rattle.numerals.specs.declared.digits.Digits.the-variants.{Value, Malformed}
 use Rattle.telegram.specs.Telegram.{readTelegram, rowOf}
 use Rattle.telegram.specs.declared.message.Number.{Number}
 use Rattle.telegram.specs.declared.message.Message.{Message}

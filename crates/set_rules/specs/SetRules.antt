@@ -4,8 +4,8 @@ use mathlib.Core.List.{List, [], _∷_, _++_, map}
 use mathlib.Core.Bool.{cond}
 use lib.Dec.{eqb}
 use lib.ListN.{drop, set}
-use Rattle.fields.specs.declared.digits.Digits.{Digits}
-use Rattle.fields.specs.declared.digits.Digits.the-variants.{Value, Malformed}
+use Rattle.numerals.specs.declared.digits.Digits.{Digits}
+use Rattle.numerals.specs.declared.digits.Digits.the-variants.{Value, Malformed}
 use Rattle.telegram.specs.Telegram.{num, readTelegram}
 use Rattle.telegram.specs.declared.message.Number.{Number}
 use Rattle.telegram.specs.declared.message.Message.{Message}

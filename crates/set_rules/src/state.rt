@@ -1,7 +1,7 @@
 // The state of a line set, and what an entry asks of it.
 use channel::Channel;
 use channel::Event;
-use fields::Digits;
+use numerals::Digits;
 use telegram::Number;
 ghost use mathlib.Core.Path.{_≡_};
 ghost use Rattle.set_rules.specs.State.{newLink, timeTold, answered, noDesk, newSet};

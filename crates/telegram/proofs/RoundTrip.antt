@@ -12,9 +12,10 @@ use borrow.Author.Tests.{leb-true, le-leb, lt-ltb, eqb-true, eq-eqb}
 use Rattle.laws.specs.Each.{Each}
 use Rattle.laws.proofs.Lists.{tab, tab-all}
 use Rattle.laws.proofs.Tests.{both, by-test, cond-taken}
-use Rattle.fields.specs.Digits.{digitsOf, allDigits, valueOf}
+use Rattle.numerals.specs.Digits.{digitsOf, allDigits, valueOf}
 use Rattle.fields.specs.Fields.{Field, plain, length4, code, len, inRange as fits, bodyOk, valuesIn, allIn, bytesOf}
-use Rattle.fields.proofs.Kept.{length-digits, digits-digits, value-digits, digits-value, read-written, written-read, length-bytes, same-count}
+use Rattle.numerals.proofs.Kept.{length-digits, digits-digits, value-digits, digits-value}
+use Rattle.fields.proofs.Kept.{read-written, written-read, length-bytes, same-count}
 use Rattle.telegram.specs.Telegram.{Row, nth, timeNotice, operationAnswer, timeRequest, baseArrival, operationRequest, call, callerNotice, captureRequest, captureReply, captureState, table, readRow, readIn, heading, headerOk, readIdentified, readTelegram, rowOf, valuesOf, sizeOf, headed, telegramOf, inRange}
 use Rattle.telegram.specs.Promises.{ReadsBack, WrittenForm, OneForm}
 use Rattle.telegram.specs.declared.message.Message.{Message}

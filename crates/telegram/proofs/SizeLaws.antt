@@ -4,7 +4,8 @@ use mathlib.Core.Path.{_≡_, refl}
 use native.Mathlib.Omega.{arith}
 use lib.Dec.{lit≤}
 use lib.ListN.{length, length-append}
-use Rattle.fields.proofs.Kept.{length-digits, length-bytes}
+use Rattle.numerals.proofs.Kept.{length-digits}
+use Rattle.fields.proofs.Kept.{length-bytes}
 use Rattle.telegram.specs.Telegram.{rowOf, valuesOf, telegramOf}
 use Rattle.telegram.specs.Promises.{Sized, AtMost46}
 use Rattle.telegram.specs.declared.message.Message.{Message}

@@ -4,7 +4,7 @@ use mathlib.Core.List.{List, [], _∷_, _++_}
 use mathlib.Core.Bool.{Bool, _&&_, cond}
 use lib.Dec.{leb, eqb}
 use lib.ListN.{length, take, drop, getD}
-use Rattle.fields.specs.Digits.{digitsOf, allDigits, valueOf}
+use Rattle.numerals.specs.Digits.{digitsOf, allDigits, valueOf}
 use Rattle.fields.specs.Fields.{Field, length4, code, channel, base, callType, direction, reason, len, number, flag, year, month, day, hour, minute, second, bodyOk, valuesIn, allIn, bytesOf, bodySize}
 use Rattle.telegram.specs.declared.message.Number.{Number}
 use Rattle.telegram.specs.declared.message.Message.{Message}

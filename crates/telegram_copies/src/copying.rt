@@ -4,7 +4,7 @@ ghost use mathlib.Core.List.{_++_};
 ghost use Prim.Native.Nat.{_+_, _≤_};
 ghost use lib.ListN.{length, take, drop};
 ghost use lib.Seq.{sets};
-ghost use Rattle.fields.specs.Digits.{digitsOf};
+ghost use Rattle.numerals.specs.Digits.{digitsOf};
 
 // Copies the first n bytes to the front of a buffer.
 fn copy(bytes: &[u8], n: usize, buffer: &mut [u8])

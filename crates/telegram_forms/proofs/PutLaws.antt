@@ -8,10 +8,10 @@ use native.Mathlib.Omega.{arith}
 use Rattle.laws.proofs.Lists.{sets-append}
 use lib.ListN.{length, take, drop, set, replicate}
 use lib.Seq.{sets, sets-eq, length-sets, set-set, set-comm, take-at}
-use Rattle.fields.specs.Digits.{digitsOf}
+use Rattle.numerals.specs.Digits.{digitsOf}
 use Rattle.fields.specs.Fields.{Field, plain, bytesOf}
-use Rattle.fields.specs.Promises.{shifted}
-use Rattle.fields.proofs.Kept.{length-digits, digits-none, digits-suc, digits-split}
+use Rattle.numerals.specs.Promises.{shifted}
+use Rattle.numerals.proofs.Kept.{length-digits, digits-none, digits-suc, digits-split}
 use Rattle.telegram.specs.Telegram.{rowOf, valuesOf, sizeOf, headed, telegramOf, over}
 use Rattle.telegram.specs.declared.message.Number.{Number}
 use Rattle.telegram.specs.declared.message.CallerNotice.{CallerNotice}

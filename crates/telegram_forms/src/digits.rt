@@ -3,7 +3,7 @@ ghost use mathlib.Core.Path.{_≡_};
 ghost use mathlib.Core.List.{[]};
 ghost use Prim.Native.Nat.{_+_, _%_, _≤_};
 ghost use lib.Seq.{sets};
-ghost use Rattle.fields.specs.Digits.{digitsOf};
+ghost use Rattle.numerals.specs.Digits.{digitsOf};
 ghost use Rattle.telegram.specs.Telegram.{headed};
 ghost use Rattle.telegram_forms.specs.Forms.{padded};
 

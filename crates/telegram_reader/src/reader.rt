@@ -1,6 +1,6 @@
 // Reading telegrams: the header, then the numbers of the body by its list of fields, then the message that they make.
-use fields::Digits;
 use fields::Fields;
+use numerals::Digits;
 use telegram::BaseArrival;
 use telegram::Call;
 use telegram::CallerNotice;
@@ -14,7 +14,7 @@ use telegram::Reading;
 use telegram::TimeNotice;
 ghost use mathlib.Core.List.{[], _∷_};
 ghost use mathlib.Core.Path.{_≡_};
-ghost use Rattle.fields.specs.Digits.{digitsIn};
+ghost use Rattle.numerals.specs.Digits.{digitsIn};
 ghost use Rattle.fields.specs.Fields.{length4, code};
 ghost use Rattle.fields.specs.Held.{fieldsIn};
 ghost use Rattle.telegram.specs.Telegram.{timeNotice, operationAnswer, baseArrival, call, callerNotice, captureRequest, captureReply, captureState, table, readIn, readTelegram};
@@ -144,10 +144,10 @@ fn read_capture_request(b: &[u8]) -> Fields
     if b.len() != 13 {
         return fields::no_fields();
     }
-    let channel = fields::four(b'0', b[0], b[1], b[2]);
-    let len = fields::four(b'0', b'0', b'0', b[3]);
-    let number = fields::eight(b[4], b[5], b[6], b[7], b[8], b[9], b[10], b[11]);
-    let order = fields::four(b'0', b'0', b'0', b[12]);
+    let channel = numerals::four(b'0', b[0], b[1], b[2]);
+    let len = numerals::four(b'0', b'0', b'0', b[3]);
+    let number = numerals::eight(b[4], b[5], b[6], b[7], b[8], b[9], b[10], b[11]);
+    let order = numerals::four(b'0', b'0', b'0', b[12]);
     if fields::in_range(fields::CHANNEL, 0, 0, channel)
         & fields::in_range(fields::LEN, 0, channel, len)
         & fields::in_range(fields::NUMBER, channel, len, number)
@@ -239,8 +239,8 @@ fn read_heading(s: &[u8]) -> Fields
     if s.len() != 8 {
         return fields::no_fields();
     }
-    let n = fields::four(s[0], s[1], s[2], s[3]);
-    let code = fields::four(s[4], s[5], s[6], s[7]);
+    let n = numerals::four(s[0], s[1], s[2], s[3]);
+    let code = numerals::four(s[4], s[5], s[6], s[7]);
     if fields::in_range(fields::LENGTH, 0, 0, n) & fields::in_range(fields::CODE, 0, n, code) {
         Fields {
             ok: true,
@@ -279,9 +279,9 @@ fn read_identifier(s: &[u8]) -> Digits
     ensures { λ r. ⌜ r ≡ digitsIn (now (s .entry)) ⌝ }
 {
     if s.len() != 6 {
-        return fields::read_digits(s);
+        return numerals::read_digits(s);
     }
-    let v = fields::eight(b'0', b'0', s[0], s[1], s[2], s[3], s[4], s[5]);
+    let v = numerals::eight(b'0', b'0', s[0], s[1], s[2], s[3], s[4], s[5]);
     if v < 1000000 {
         Digits::Value(v)
     } else {

@@ -9,8 +9,8 @@ use lib.Dec.{eqb, leb}
 use lib.ListN.{length, take, drop, length-drop}
 use lib.Seq.{length-take-le}
 use borrow.Author.Tests.{le-leb, lt-leb, eq-eqb, ne-eqb}
-use Rattle.fields.specs.Digits.{allDigits, valueOf}
-use Rattle.fields.proofs.Kept.{value-found, malformed-found}
+use Rattle.numerals.specs.Digits.{allDigits, valueOf}
+use Rattle.numerals.proofs.Kept.{value-found, malformed-found}
 use Rattle.telegram.specs.Telegram.{num}
 use Rattle.set_rules.specs.Entries.{word}
 use borrow.Author.Needs.{needs}

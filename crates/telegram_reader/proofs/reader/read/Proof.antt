@@ -7,8 +7,8 @@ use native.Mathlib.Omega.{arith}
 use lib.ListN.{length, take, drop, length-drop}
 use lib.Seq.{length-take-le}
 use Rattle.laws.proofs.Lists.{part-to-end}
-use Rattle.fields.specs.Digits.{allDigits}
-use Rattle.fields.proofs.Kept.{value-found, malformed-found}
+use Rattle.numerals.specs.Digits.{allDigits}
+use Rattle.numerals.proofs.Kept.{value-found, malformed-found}
 use Rattle.telegram.specs.Telegram.{readTelegram}
 use Rattle.telegram_reader.proofs.HeaderLaws.{header-found, header-none, header-long}
 use borrow.Author.Needs.{needs}

@@ -8,7 +8,7 @@ use lib.Dec.{lit≤}
 use borrow.Author.Needs.{needs}
 use borrow.Author.Tests.{eq-eqb, ne-eqb}
 use Rattle.laws.proofs.Lists.{tab}
-use Rattle.fields.specs.Digits.{allDigits, valueFrom}
+use Rattle.numerals.specs.Digits.{allDigits, valueFrom}
 use Rattle.fields.specs.Fields.{length4, code, allIn}
 use Rattle.fields.specs.Held.{asNumbers}
 use Rattle.fields.specs.Held.{padded, noFields, fieldsIn}

@@ -8,10 +8,10 @@ use lib.ListN.{length}
 use borrow.Author.Needs.{needs}
 use borrow.Author.Tests.{lt-ltb, le-ltb}
 use Rattle.laws.proofs.Lists.{tab}
-use Rattle.fields.specs.Digits.{allDigits, valueFrom, digitsIn}
-use Rattle.fields.specs.Held.{asNumber}
-use Rattle.fields.specs.declared.digits.Digits.the-variants.{Value, Malformed}
-use Rattle.fields.proofs.Kept.{digits-spelt}
+use Rattle.numerals.specs.Digits.{allDigits, valueFrom, digitsIn}
+use Rattle.numerals.specs.Held.{asNumber}
+use Rattle.numerals.specs.declared.digits.Digits.the-variants.{Value, Malformed}
+use Rattle.numerals.proofs.Kept.{digits-spelt}
 use Rattle.telegram_reader.proofs.StepLaws.{byte-by-byte}
 use Rattle.telegram_reader.proofs.reader.read_identifier.Statement.{statement}
 use Rattle.telegram_reader.proofs.reader.read_identifier.Tie as tie

@@ -1,14 +1,14 @@
--- `fields::digits::four` meets its contract: the four tests together, and the four digits by their places.
+-- `numerals::digits::four` meets its contract: the four tests together, and the four digits by their places.
 -- Assumes nothing.
 use Prim.Native.Nat.{ℕ}
 use mathlib.Core.Bool.{Bool, true, false, _&&_}
 use mathlib.Core.Path.{_≡_}
 use native.Mathlib.Omega.{arith}
 use borrow.Author.Needs.{needs}
-use Rattle.fields.specs.Digits.{isDigit}
-use Rattle.fields.proofs.DigitLaws.{four-digits, four-value}
-use Rattle.fields.proofs.digits.four.Statement.{statement}
-use Rattle.fields.proofs.digits.four.Tie as tie
+use Rattle.numerals.specs.Digits.{isDigit}
+use Rattle.numerals.proofs.DigitLaws.{four-digits, four-value}
+use Rattle.numerals.proofs.digits.four.Statement.{statement}
+use Rattle.numerals.proofs.digits.four.Tie as tie
 
 -- the four answers are of the four bytes
 abbrev tests : ℕ → ℕ → ℕ → ℕ → Bool

@@ -1,4 +1,4 @@
--- `fields::digits::eight` meets its contract: two fours, one after the other.
+-- `numerals::digits::eight` meets its contract: two fours, one after the other.
 -- Assumes nothing.
 use Prim.Native.Nat.{_<_}
 use mathlib.Core.List.{[], _∷_}
@@ -8,9 +8,9 @@ use lib.Dec.{ltb, lit≤}
 use borrow.Author.Needs.{needs}
 use borrow.Author.Tests.{ltb-true}
 use Rattle.laws.proofs.Tests.{both}
-use Rattle.fields.proofs.DigitLaws.{spelt-join}
-use Rattle.fields.proofs.digits.eight.Statement.{statement}
-use Rattle.fields.proofs.digits.eight.Tie as tie
+use Rattle.numerals.proofs.DigitLaws.{spelt-join}
+use Rattle.numerals.proofs.digits.eight.Statement.{statement}
+use Rattle.numerals.proofs.digits.eight.Tie as tie
 
 -- both are below 10,000
 small : (c : tie.Then1) → (c .before .before .four .result < 10000) × (c .before .four2 .result < 10000)

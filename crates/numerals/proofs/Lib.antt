@@ -1,0 +1,2 @@
+mod DigitLaws
+pub mod Kept
