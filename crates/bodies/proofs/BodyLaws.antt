@@ -8,7 +8,6 @@ use native.Mathlib.Nat.{pow-suc}
 use native.Mathlib.Omega.{arith}
 use lib.Count.{onesIn, ones, ones-step}
 use lib.Dec.{eqb, lit≤}
-use lib.ListN.{replicate}
 use lib.Seq.{sets}
 use Rattle.numerals.specs.Digits.{digitsOf}
 use Rattle.telegram.specs.Telegram.{sizeOf, num, telegramOf}
@@ -22,7 +21,8 @@ use Rattle.line_rules.specs.Notices.{telegram, contact, contentFor}
 use Rattle.channel.specs.declared.state.Notice.{Notice}
 use Rattle.channel.specs.declared.state.Notice.the-variants.{PressAnswer, Incoming, BaseArrival, Call, PressNotice, CallerNotice, CaptureReply, CaptureState}
 use Rattle.set_rules.specs.Records.{recordSize}
-use Rattle.bodies.specs.Bodies.{bodyFor, shapeOf, sizeIn, contentForm, formOf, numberedFor, ownEnd}
+use Rattle.bodies.specs.Bodies.{bodyFor, shapeOf, sizeIn, contentForm}
+use Rattle.bodies.specs.Promises.{AsContact, NoForm, AsTelegram, HasTelegrams, SizeIs, AtMost51}
 use Rattle.bodies.specs.declared.body.Body.{Body}
 use Rattle.bodies.specs.declared.body.Body.the-variants.{About, TimeRequest, OperationRequest}
 use Rattle.bodies.specs.declared.shape.Own.{Own}
@@ -33,14 +33,6 @@ use Rattle.bodies.specs.declared.shape.Shape.the-variants.{Contact, Tele
 pub either-same : {A : Type 0} (b : Bool) (x : A) → cond b x x ≡ x
 either-same true x = refl
 either-same false x = refl
-
--- what the telegrams of a body say, and how the one that is made first becomes that of a desk
-pub record AsTelegram (b : Body) (o : Own) (size : ℕ) : Type 0 where
-  pub says : ℕ → Number → Message
-  pub content : (d : ℕ) (own : Number) → bodyFor d own b ≡ telegram (says d own)
-  pub sized : (d : ℕ) (own : Number) → size ≡ 5 + sizeOf (says d own)
-  pub ends : 5 + ownEnd o ≤ size
-  pub numbered : (z : List ℕ) (c d : ℕ) (own : Number) → numberedFor o d own (sets z 0 (telegramOf c (says 0 (num 0)))) ≡ sets z 0 (telegramOf c (says d own))
 
 abbrev Seen : Body → Shape → Type 0
 Seen b (Contact k ch on) = (d : ℕ) (own : Number) → bodyFor d own b ≡ contact k ch on
@@ -83,21 +75,20 @@ seen (About ch (CaptureState h s)) = record {
 seen TimeRequest = to-all _ _ (λ d own. refl)
 seen OperationRequest = to-all _ _ (λ d own. refl)
 
-pub as-contact : (b : Body) {k ch on : ℕ} → shapeOf b ≡ Contact k ch on → (d : ℕ) (own : Number) → bodyFor d own b ≡ contact k ch on
+pub as-contact : (b : Body) {k ch on : ℕ} → AsContact b k ch on
 as-contact b h = subst (Seen b) h (seen b)
 
-pub no-form : (b : Body) {k ch on : ℕ} → shapeOf b ≡ Contact k ch on → replicate 46 0 ≡ formOf b
+pub no-form : (b : Body) {k ch on : ℕ} → NoForm b k ch on
 no-form b h = sym (ap contentForm (as-contact b h 0 (num 0)))
 
-pub as-telegram : (b : Body) {o : Own} {size : ℕ} → shapeOf b ≡ Telegram o size → AsTelegram b o size
+pub as-telegram : (b : Body) {o : Own} {size : ℕ} → HasTelegrams b o size
 as-telegram b h = subst (Seen b) h (seen b)
 
-module _ {b : Body} {o : Own} {size : ℕ} (t : AsTelegram b o size) where
-  pub size-is : (d : ℕ) (own : Number) → size ≡ recordSize (bodyFor d own b)
-  size-is d own = t .sized d own ∙ sym (ap recordSize (t .content d own))
+pub size-is : {b : Body} {o : Own} {size : ℕ} → SizeIs b o size
+size-is t d own = t .sized d own ∙ sym (ap recordSize (t .content d own))
 
-  pub size-most : size ≤ 51
-  size-most = omega (arith, t .sized 0 (num 0), telegram-most (t .says 0 (num 0)))
+pub size-most : {b : Body} {o : Own} {size : ℕ} → AtMost51 b o size
+size-most t = omega (arith, t .sized 0 (num 0), telegram-most (t .says 0 (num 0)))
 
 -- a record takes the same space whatever desk it is for, whatever its own number, and whatever channel it is about
 size-seen : (b : Body) (s : Shape) → Seen b s → (d : ℕ) (own : Number) → (sizeIn s ≡ recordSize (bodyFor d own b)) × (sizeIn s ≤ 51)

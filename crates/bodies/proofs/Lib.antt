@@ -1,2 +1,3 @@
-pub mod BodyLaws
-pub mod SpaceLaws
+mod BodyLaws
+mod SpaceLaws
+pub mod Kept

@@ -13,7 +13,8 @@ use Rattle.channel.specs.declared.state.Send.{Send}
 use Rattle.set_rules.specs.Records.{delivered, recordsOf, spaceOf}
 use Rattle.set_rules.specs.declared.state.Desk.{Desk}
 use Rattle.bodies.specs.Bodies.{deliveryOf}
-use Rattle.records.proofs.SendLaws.{nobody}
+use Rattle.records.proofs.Kept.{nobody}
+use Rattle.changes.specs.Promises.{SameSpace, SameRecords}
 
 pub heard-records : (ds : List Desk) (ch : ℕ) (ss : List Send) → recordsOf ds (delivered ds ch (heard ss)) ≡ recordsOf ds (delivered ds ch ss)
 unfolding heard delivered recordsOf
@@ -41,8 +42,8 @@ heard-space ds ch (s ∷ ss) = go (eqb (s .recipients) 0) refl (heard-space ds c
 
 -- ---- sends that are heard alike
 
-pub same-space : (ds : List Desk) (ch : ℕ) (ss ts : List Send) → heard ss ≡ heard ts → spaceOf (delivered ds ch ss) ≡ spaceOf (delivered ds ch ts)
+pub same-space : SameSpace
 same-space ds ch ss ts h = sym (heard-space ds ch ss) ∙ (ap (λ (l : List Send). spaceOf (delivered ds ch l)) h ∙ heard-space ds ch ts)
 
-pub same-records : (ds : List Desk) (ch : ℕ) (ss ts : List Send) → heard ss ≡ heard ts → recordsOf ds (delivered ds ch ss) ≡ recordsOf ds (delivered ds ch ts)
+pub same-records : SameRecords
 same-records ds ch ss ts h = sym (heard-records ds ch ss) ∙ (ap (λ (l : List Send). recordsOf ds (delivered ds ch l)) h ∙ heard-records ds ch ts)

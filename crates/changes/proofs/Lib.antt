@@ -1,4 +1,5 @@
-pub mod Places
-pub mod Heard
-pub mod Changing
-pub mod Rules
+mod Places
+mod Heard
+mod Changing
+mod Rules
+pub mod Kept

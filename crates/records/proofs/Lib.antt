@@ -1,3 +1,5 @@
-pub mod Writing
-pub mod RecordLaws
-pub mod SendLaws
+mod Writing
+mod RecordLaws
+mod SendLaws
+mod Emission
+pub mod Kept

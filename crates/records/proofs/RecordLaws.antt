@@ -18,13 +18,15 @@ use Rattle.line_rules.specs.Notices.{Content, telegram, contact}
 use Rattle.set_rules.specs.State.{noDesk, ownOf}
 use Rattle.set_rules.specs.Records.{Delivery, recordFor, recordSize, toEach, recordsOf}
 use Rattle.set_rules.specs.declared.state.Desk.{Desk}
-use Rattle.set_rules.proofs.Answers.{halves, halves-half, in-halves}
+use Rattle.set_rules.specs.RecordLaws.{halves}
+use Rattle.set_rules.proofs.Kept.{halves-half, in-halves}
 use Rattle.bodies.specs.Bodies.{bodyFor, delivery, contentForm, formOf, numberedFor}
 use Rattle.bodies.specs.declared.body.Body.{Body}
 use Rattle.bodies.specs.declared.shape.Own.{Own}
-use Rattle.bodies.proofs.BodyLaws.{AsTelegram, size-is}
+use Rattle.bodies.specs.Promises.{AsTelegram}
+use Rattle.bodies.proofs.Kept.{size-is}
 use Rattle.records.specs.Emitting.{written, headBytes, kindOf, restBytes, toOne}
-use Rattle.records.proofs.Writing.{Split}
+use Rattle.records.specs.Promises.{Split}
 
 -- ---- one record
 

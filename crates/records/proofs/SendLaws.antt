@@ -7,15 +7,14 @@ use native.Mathlib.Numerals.{add-one}
 use lib.ListN.{length, drop, getD, drop-of-length-le}
 use lib.Seq.{drop-cons}
 use Rattle.channel.specs.declared.state.Send.{Send}
-use Rattle.set_rules.specs.Records.{Delivery, delivered, recordsOf, toEach}
+use Rattle.set_rules.specs.Records.{delivered, recordsOf}
 use Rattle.set_rules.specs.declared.state.Desk.{Desk}
-use Rattle.set_rules.proofs.Answers.{halves}
+use Rattle.set_rules.specs.RecordLaws.{halves}
 use Rattle.bodies.specs.Bodies.{deliveryOf}
-use Rattle.records.proofs.Writing.{Split}
+use Rattle.records.specs.Promises.{ToNobody, Split}
 use Rattle.records.proofs.RecordLaws.{each-none, records-one}
 
--- a delivery to nobody
-pub nobody : (ds : List Desk) (v : Delivery) → v .recipients ≡ 0 → toEach 8 0 ds v ≡ []
+pub nobody : ToNobody
 unfolding halves
 nobody ds v h = each-none 8 0 ds v h
 

@@ -9,14 +9,15 @@ use lib.ListN.{length, take, drop, length-drop, length-append, drop-of-length-le
 use lib.Seq.{sets-eq, drop-drop, length-sets}
 use Rattle.laws.proofs.Lists.{sets-append, part-to-end}
 use Rattle.telegram.specs.Telegram.{over}
-use Rattle.records.specs.Emitting.{written, PutAt}
+use Rattle.records.specs.Emitting.{written}
+use Rattle.records.specs.Promises.{NoneWritten, Writing, Split, Start, Next, Room, AllPut}
 
 -- one run of bytes after another is the run of both
 pub written-append : (l : List ℕ) (i : ℕ) (xs ys : List ℕ) → written l i (xs ++ ys) ≡ written (written l i xs) (i + length xs) ys
 unfolding written
 written-append l i xs ys = sets-append l i xs ys
 
-pub written-none : (l : List ℕ) (i : ℕ) → written l i [] ≡ l
+pub written-none : NoneWritten
 unfolding written
 written-none l i = refl
 
@@ -40,36 +41,23 @@ part-back xs a vs ys h e =
 
 -- ---- writing in several turns
 
--- `total` is to be written at place `at` of b₀; by now the buffer is b, and `rest` is still to be written, at place p
-pub record Writing (b₀ : List ℕ) (at : ℕ) (total : List ℕ) (b : List ℕ) (p : ℕ) (rest : List ℕ) : Type 0 where
-  pub bytes : written b p rest ≡ written b₀ at total
-  pub ends : p + length rest ≡ at + length total
-  pub same : length b ≡ length b₀
-
--- `rest` is xs, then ys: a record, so that antt finds xs and ys, which `_++_` hides
-pub record Split (rest xs ys : List ℕ) : Type 0 where
-  pub parts : rest ≡ xs ++ ys
-
-pub start : (b : List ℕ) (at : ℕ) (total : List ℕ) → Writing b at total b at total
+pub start : Start
 start b at total = record { bytes = refl; ends = refl; same = refl }
 
--- after xs has been written, where xs ++ ys was left, ys is left
 pub next : {b₀ : List ℕ} {at : ℕ} {total b : List ℕ} {p : ℕ} {rest xs ys b′ : List ℕ} {p′ : ℕ}
-    → Writing b₀ at total b p rest → Split rest xs ys → p′ ≡ p + length xs → b′ ≡ written b p xs → Writing b₀ at total b′ p′ ys
+    → Next b₀ at total b p rest xs ys b′ p′
 next {b₀} {at} {total} {b} {p} {rest} {xs} {ys} {b′} {p′} w e ep eb = record {
   bytes = rw (eb, ep) (sym (written-append b p xs ys) ∙ (ap (λ (l : List ℕ). written b p l) (sym (e .parts)) ∙ w .bytes));
   ends = omega (arith, w .ends, ep, simp length-append at (ap length (e .parts)));
   same = ap length eb ∙ length-written b p xs ∙ w .same;
 }
 
--- there is room for the first of what is left
 pub room : {b₀ : List ℕ} {at : ℕ} {total b : List ℕ} {p : ℕ} {rest xs ys : List ℕ}
-    → Writing b₀ at total b p rest → Split rest xs ys → at + length total ≤ length b₀ → p + length xs ≤ length b
+    → Room b₀ at total b p rest xs ys
 room w e h = omega (arith, w .ends, w .same, simp length-append at (ap length (e .parts)))
 
-pub done : {b₀ : List ℕ} {at : ℕ} {total b : List ℕ} {p : ℕ} {rest : List ℕ} → Writing b₀ at total b p rest → rest ≡ []
-    → PutAt at total p b₀ b
-done {b₀} {at} {total} {b} {p} {rest} w e =
+pub all-put : {b₀ : List ℕ} {at : ℕ} {total b : List ℕ} {p : ℕ} {rest : List ℕ} → AllPut b₀ at total b p rest
+all-put {b₀} {at} {total} {b} {p} {rest} w e =
     (omega (arith, w .ends, ap length e), sym (written-none b p) ∙ (ap (λ (l : List ℕ). written b p l) (sym e) ∙ w .bytes))
 
 -- xs alone is left

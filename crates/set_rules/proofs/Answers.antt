@@ -3,15 +3,14 @@
 use Prim.Native.Nat.{ℕ, zero, suc, _+_, _*_, _/_, _%_}
 use mathlib.Core.List.{List, [], _∷_, _++_}
 use mathlib.Core.Bool.{Bool, true, false, cond, false≢true}
-use mathlib.Core.Path.{_≡_, refl, sym, ap, _∙_}
+use mathlib.Core.Path.{_≡_, refl, sym, ap, subst, _∙_}
 use native.Mathlib.Omega.{arith}
 use native.Mathlib.Nat.{add-mul, one-mul, zero-mul}
 use lib.Count.{onesIn}
 use lib.Dec.{eqb, leb}
 use lib.ListN.{length, length-append, getD}
-use borrow.Author.Tests.{eqb-true, eqb-false, eq-eqb}
+use borrow.Author.Tests.{eqb-true, eqb-false, eq-eqb, lt-leb}
 use Rattle.telegram.specs.Telegram.{readTelegram}
-use Rattle.laws.specs.Each.{Each}
 use Rattle.laws.proofs.Each.{_▹_, each-append}
 use Rattle.telegram.proofs.Kept.{length-telegram}
 use Rattle.channel.specs.State.{isIn}
@@ -26,9 +25,11 @@ use Rattle.set_rules.specs.Entries.{readEntry, telegramIn}
 use Rattle.laws.specs.Table.{pick}
 use Rattle.set_rules.specs.Refusals.{askedIn, refusalOf}
 use Rattle.set_rules.specs.Records.{Delivery, delivered, recordFor, recordSize, toEach, recordsOf, spaceOf}
-use Rattle.set_rules.specs.SetRules.{onChannel, sendsOf, onTick, onHandover, onRequest, ways, accepted}
-use Rattle.set_rules.specs.Feeds.{Item, outcomeOf, stepOf, stepBy, run, after}
+use Rattle.set_rules.specs.SetRules.{Effect, onChannel, sendsOf, onTick, onHandover, onRequest, ways, accepted}
+use Rattle.set_rules.specs.Feeds.{Outcome, Item, Gives, outcomeOf, stepOf, stepBy, run, after}
+use Rattle.set_rules.specs.RecordLaws.{Even, AllEven, RecordIsLong, SpaceIsLength, EvenSends, EvenAll, halves, OneMoreHalf, LowestBit, GivesAlike, LeftAsWas, NoRoom}
 use Rattle.set_rules.specs.Promises.{Refused, Counted, Renewed}
+use Rattle.set_rules.specs.declared.state.Answer.{Answer}
 use Rattle.set_rules.specs.declared.state.Desk.{Desk}
 use Rattle.set_rules.specs.declared.state.LineSet.{LineSet}
 use Rattle.set_rules.specs.declared.state.Entry.{Entry}
@@ -51,28 +52,16 @@ refused s e room h = go (eqb (refusalOf s e (readEntry e)) 0) refl (leb (spaceOf
 
 -- ---- the count
 
--- what a delivery says takes the same space to each desk
-abbrev pub Even : Delivery → Type 0
-Even v = (d : ℕ) → recordSize (v .content d) ≡ recordSize (v .content 0)
-
-abbrev pub AllEven : List Delivery → Type 0
-AllEven = Each Even
-
-pub record-length : (ds : List Desk) (d : ℕ) (x : Content) → length (recordFor ds d x) ≡ recordSize x
+pub record-length : RecordIsLong
 record-length ds d (telegram m) = let l = length-telegram (getD ds d noDesk .code) m in omega arith
 record-length ds d (contact k ch on) = refl
 
--- a mask without its lowest d bits
-unfoldable pub halves : ℕ → ℕ → ℕ
-halves zero m = m
-halves (suc d) m = halves d (m / 2)
-
-pub halves-half : (d m : ℕ) → halves (suc d) m ≡ halves d m / 2
+pub halves-half : OneMoreHalf
 unfolding halves
 halves-half zero m = refl
 halves-half (suc d) m = halves-half d (m / 2)
 
-pub in-halves : (d m : ℕ) → isIn d m ≡ eqb (halves d m % 2) 1
+pub in-halves : LowestBit
 unfolding isIn halves
 in-halves zero m = refl
 in-halves (suc d) m = in-halves d (m / 2)
@@ -97,7 +86,7 @@ each-length (suc k) d ds v e =
     one-more (isIn d m) (halves d m) (onesIn k (halves d m / 2)) (recordSize (v .content 0)) (recordFor ds d (v .content d)) (toEach k (suc d) ds v)
     (sym (in-halves d m)) (record-length ds d (v .content d) ∙ e d) rest
 
-pub space-length : (ds : List Desk) (vs : List Delivery) → AllEven vs → spaceOf vs ≡ length (recordsOf ds vs)
+pub space-length : SpaceIsLength
 unfolding spaceOf recordsOf halves
 space-length ds [] e = refl
 space-length ds (v ∷ vs) e = simp (length-append, each-length 8 0 ds v (e .0), space-length ds vs (e .1)) refl
@@ -113,12 +102,12 @@ even-notice ds ch (CallerNotice k b n o) d = refl
 even-notice ds ch (CaptureReply r) d = refl
 even-notice ds ch (CaptureState h s) d = refl
 
-pub even-sends : (ds : List Desk) (ch : ℕ) (ss : List Send) → AllEven (delivered ds ch ss)
+pub even-sends : EvenSends
 unfolding delivered
 even-sends ds ch [] = tt
 even-sends ds ch (s ∷ ss) = (even-notice ds ch (s .notice), even-sends ds ch ss)
 
-pub even-all : (ds : List Desk) (f : Channel → List Send) (cs : List Channel) → AllEven (sendsOf ds f cs)
+pub even-all : EvenAll
 unfolding sendsOf
 even-all ds f [] = tt
 even-all ds f (c ∷ cs) = each-append Even (delivered ds (c .code) (f c)) (sendsOf ds f cs) (even-sends ds (c .code) (f c)) (even-all ds f cs)
@@ -156,6 +145,17 @@ counted s e room = go (eqb (refusalOf s e (readEntry e)) 0) refl (leb (spaceOf (
     go true k true l = rw (k, l) (space-length _ _ (even-accepted s e (readEntry e)))
     go true k false l = rw (k, l)
     go false k u l = rw k
+
+-- ---- answers as outcomes give them
+
+pub gives-as : {o o′ : Outcome} {r : Answer} {b a : List ℕ} → GivesAlike o o′ r b a
+gives-as {o} {o′} {r} {b} {a} e h = subst (λ (x : Outcome). Gives x r b a) e h
+
+pub left-as-was : LeftAsWas
+left-as-was s n b = record { answer = refl; bytes = refl }
+
+pub no-room : (s : LineSet) (b : List ℕ) (f : Effect) {r : Answer} → NoRoom s b f r
+no-room s b f h g = rw (lt-leb (spaceOf (f .sent)) (length b) h) g
 
 -- ---- a handover
 

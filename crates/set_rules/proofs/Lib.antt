@@ -1,9 +1,10 @@
-pub mod Marked
-pub mod Answers
-pub mod Received
-pub mod Isolation
-pub mod Witness
-pub mod Rows
-pub mod Ticks
-pub mod AllMarked
-pub mod Readable
+mod Marked
+mod Answers
+mod Received
+mod Isolation
+mod Witness
+mod Rows
+mod Ticks
+mod AllMarked
+mod Readable
+pub mod Kept

@@ -6,7 +6,8 @@ use lib.ListN.{length}
 use Rattle.judging.specs.Judging.{refusalBy}
 use Rattle.set_rules.specs.declared.state.Desk.{Desk}
 use Rattle.changes.specs.Changes.{setWith}
-use Rattle.changes.proofs.Changing.{gives-as, refused}
+use Rattle.set_rules.proofs.Kept.{gives-as}
+use Rattle.changes.proofs.Changing.{refused}
 use Rattle.changes.proofs.Rules.{outcome-refused, asked-refusal, asked-found, asked-rule}
 use borrow.Author.Needs.{needs}
 use Rattle.changes.proofs.change.change_of.Statement.{statement}

@@ -12,10 +12,13 @@ use Rattle.set_rules.specs.State.{withChannels}
 use Rattle.set_rules.specs.Records.{delivered, spaceOf}
 use Rattle.set_rules.specs.SetRules.{Effect}
 use Rattle.set_rules.specs.Feeds.{emit}
-use Rattle.set_rules.proofs.Answers.{even-sends, space-length}
+use Rattle.set_rules.proofs.Kept.{even-sends, space-length}
 use Rattle.changes.specs.Changes.{setWith}
 use Rattle.changes.proofs.Heard.{same-space, same-records}
-use Rattle.changes.proofs.Changing.{done, gives-as, no-room, refused, emitted, movedAt, moved-at}
+use Rattle.set_rules.specs.RecordLaws.{done}
+use Rattle.set_rules.proofs.Kept.{gives-as, no-room}
+use Rattle.changes.proofs.Changing.{refused, movedAt, moved-at}
+use Rattle.records.proofs.Kept.{emitted}
 use borrow.Author.Needs.{needs}
 use Rattle.changes.proofs.change.on_channel.Statement.{statement}
 use Rattle.changes.proofs.change.on_channel.Tie as tie

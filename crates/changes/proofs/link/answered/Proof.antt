@@ -4,14 +4,15 @@ use mathlib.Core.List.{List}
 use mathlib.Core.Path.{sym, ap, _∙_}
 use native.Mathlib.Omega.{arith}
 use denote.Ref.{now}
-use Rattle.records.proofs.Writing.{written-none}
+use Rattle.records.proofs.Kept.{written-none}
 use Rattle.set_rules.specs.State.{answered, linkedAt, withDesks}
 use Rattle.set_rules.specs.Records.{recordsOf, spaceOf}
 use Rattle.set_rules.specs.SetRules.{answerTaken}
 use Rattle.set_rules.specs.declared.state.Desk.{Desk}
 use Rattle.set_rules.specs.declared.state.Link.{Link}
 use Rattle.changes.specs.Changes.{setWith}
-use Rattle.changes.proofs.Changing.{done, emitted}
+use Rattle.set_rules.specs.RecordLaws.{done}
+use Rattle.records.proofs.Kept.{emitted}
 use borrow.Author.Needs.{needs}
 use Rattle.changes.proofs.link.answered.Statement.{statement}
 use Rattle.changes.proofs.link.answered.Tie as tie

@@ -7,7 +7,7 @@ use Rattle.set_rules.specs.SetRules.{onLink}
 use Rattle.set_rules.specs.Feeds.{emit}
 use Rattle.set_rules.specs.declared.state.LinkRequest.{LinkRequest}
 use Rattle.changes.specs.Changes.{setWith}
-use Rattle.changes.proofs.Changing.{gives-as}
+use Rattle.set_rules.proofs.Kept.{gives-as}
 use borrow.Author.Needs.{needs}
 use Rattle.changes.proofs.link.link_change.Statement.{statement}
 use Rattle.changes.proofs.link.link_change.Tie as tie

@@ -11,11 +11,13 @@ use Rattle.bodies.specs.declared.body.Body.the-variants.{OperationRequest}
 use Rattle.set_rules.specs.State.{timeTold, linkedAt, withDesks}
 use Rattle.set_rules.specs.Records.{recordsOf, spaceOf}
 use Rattle.set_rules.specs.SetRules.{timeTaken}
-use Rattle.set_rules.proofs.Answers.{space-length}
+use Rattle.set_rules.proofs.Kept.{space-length}
 use Rattle.set_rules.specs.declared.state.Desk.{Desk}
 use Rattle.set_rules.specs.declared.state.Link.{Link}
 use Rattle.changes.specs.Changes.{setWith}
-use Rattle.changes.proofs.Changing.{done, no-room, emitted}
+use Rattle.set_rules.specs.RecordLaws.{done}
+use Rattle.set_rules.proofs.Kept.{no-room}
+use Rattle.records.proofs.Kept.{emitted}
 use borrow.Author.Needs.{needs}
 use Rattle.changes.proofs.link.time_told.Statement.{statement}
 use Rattle.changes.proofs.link.time_told.Tie as tie

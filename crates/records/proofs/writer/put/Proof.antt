@@ -5,7 +5,8 @@ use mathlib.Core.Path.{_≡_}
 use native.Mathlib.Omega.{arith}
 use lib.ListN.{length, drop}
 use Rattle.set_rules.specs.Records.{recordsOf, delivered}
-use Rattle.records.proofs.Writing.{Writing, start, next, room, done}
+use Rattle.records.specs.Promises.{Writing}
+use Rattle.records.proofs.Writing.{start, next, room, all-put}
 use Rattle.records.proofs.SendLaws.{send-turn, send-end}
 use borrow.Author.Needs.{needs}
 use Rattle.records.proofs.writer.put.Statement.{statement}
@@ -41,7 +42,7 @@ returns : tie.Need-returns Inv-loop μ-loop
 returns c =
     let l = c .before .loop in
     let n : length (c .before .before .before .args .t5) ≡ 7 = search needs in
-    done (l .inv .0) (send-end _ _ _ (l .k) (omega (arith, n)))
+    all-put (l .inv .0) (send-end _ _ _ (l .k) (omega (arith, n)))
 
 pub put-spec : {M : Type 1} → statement M
 put-spec =

@@ -6,9 +6,10 @@ use mathlib.Core.List.{[], _∷_}
 use mathlib.Core.Path.{_≡_, refl}
 use native.Mathlib.Omega.{arith}
 use Rattle.set_rules.specs.Records.{toEach, recordsOf}
-use Rattle.set_rules.proofs.Answers.{halves}
+use Rattle.set_rules.specs.RecordLaws.{halves}
 use Rattle.bodies.specs.Bodies.{delivery}
-use Rattle.records.proofs.Writing.{Writing, start, next, room, done}
+use Rattle.records.specs.Promises.{Writing}
+use Rattle.records.proofs.Writing.{start, next, room, all-put}
 use Rattle.records.proofs.RecordLaws.{place-left, each-turn, half-turn, each-none, records-one}
 use borrow.Author.Needs.{needs}
 use Rattle.records.proofs.writer.put_each.Statement.{statement}
@@ -50,7 +51,7 @@ returns c =
     let l = c .before .loop in
     let a = c .before .before .before .before .args in
     let none : halves (l .d) (a .recipients) ≡ 0 = omega (arith, l .inv .1) in
-    done (l .inv .0) (each-none (8 - l .d) (l .d) (a .desks) (delivery (a .desks) (a .recipients) (a .body)) none)
+    all-put (l .inv .0) (each-none (8 - l .d) (l .d) (a .desks) (delivery (a .desks) (a .recipients) (a .body)) none)
 
 pub put-each-spec : {M : Type 1} → statement M
 put-each-spec =

@@ -8,7 +8,7 @@ use lib.ListN.{length, length-take, length-drop}
 use Rattle.set_rules.specs.State.{ownOf}
 use Rattle.set_rules.specs.Records.{recordFor}
 use Rattle.bodies.specs.Bodies.{bodyFor}
-use Rattle.records.proofs.Writing.{start, done, part-back}
+use Rattle.records.proofs.Writing.{start, all-put, part-back}
 use Rattle.records.proofs.RecordLaws.{one-taken, one-left}
 use borrow.Author.Needs.{needs}
 use Rattle.records.proofs.writer.put_one.Statement.{statement}
@@ -32,7 +32,7 @@ returns c =
     (rw (one-taken _ _ _ _ taken) (ap (λ (n : ℕ). at + n) (e .0)), rw (one-taken _ _ _ _ taken) (part-back _ _ _ _ (fits (c .before .before .before .before)) (e .1)))
 
 returns-2 : tie.Need-returns-2
-returns-2 c = done (start _ _ _) (one-left _ _ _ _ (c .if1 .left))
+returns-2 c = all-put (start _ _ _) (one-left _ _ _ _ (c .if1 .left))
 
 pub put-one-spec : {M : Type 1} → statement M
 put-one-spec = tie.close (tie.spec (λ c. search needs) (λ c. search needs) (λ c. search needs) put-record-requires add-result (λ c. search needs) returns returns-2)

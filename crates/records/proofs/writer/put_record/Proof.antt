@@ -10,12 +10,14 @@ use Rattle.line_rules.specs.Notices.{Content}
 use Rattle.set_rules.specs.State.{ownOf}
 use Rattle.set_rules.specs.Records.{recordFor}
 use Rattle.set_rules.specs.declared.state.Desk.{Desk}
-use Rattle.set_rules.proofs.Answers.{record-length}
+use Rattle.set_rules.proofs.Kept.{record-length}
 use Rattle.bodies.specs.Bodies.{bodyFor}
 use Rattle.records.specs.Emitting.{restBytes}
 use Rattle.bodies.specs.declared.shape.Own.{Own}
-use Rattle.records.proofs.Writing.{Writing, start, next, last, room, done, part-back}
-use Rattle.bodies.proofs.BodyLaws.{AsTelegram, as-contact, as-telegram, size-is, size-most}
+use Rattle.records.specs.Promises.{Writing}
+use Rattle.records.proofs.Writing.{start, next, last, room, all-put, part-back}
+use Rattle.bodies.specs.Promises.{AsTelegram}
+use Rattle.bodies.proofs.Kept.{as-contact, as-telegram, size-is, size-most}
 use Rattle.records.proofs.RecordLaws.{parts}
 use borrow.Author.Needs.{needs}
 use Rattle.records.proofs.writer.put_record.Statement.{statement}
@@ -86,7 +88,7 @@ returns-2 c =
     let head = c .before .before .before .before in
     let size = sized (entry head) (known head) in
     let behind : head .before .before .before .before .before .before .shape2 .given .0 .1 .0 ≡ 5 + length (rest head) = omega (arith, size, begun head .ends) in
-    let all = done (next (begun head) (last _) behind (part-back _ 5 _ _ (fits head) (c .before .before .put-telegram .ensures))) refl in
+    let all = all-put (next (begun head) (last _) behind (part-back _ 5 _ _ (fits head) (c .before .before .put-telegram .ensures))) refl in
     (size, all .1)
 
 pub put-record-spec : {M : Type 1} → statement M

@@ -2,7 +2,7 @@
 -- Assumes nothing.
 use mathlib.Core.Path.{_∙_}
 use Rattle.bodies.specs.Bodies.{deliveryOf}
-use Rattle.records.proofs.Writing.{start, done}
+use Rattle.records.proofs.Writing.{start, all-put}
 use Rattle.records.proofs.RecordLaws.{records-one}
 use Rattle.records.proofs.SendLaws.{nobody}
 use borrow.Author.Needs.{needs}
@@ -15,7 +15,7 @@ returns c = search needs
 returns-2 : tie.Need-returns-2
 returns-2 c =
     let a = c .before .before .before .args in
-    done (start _ _ _) (records-one (a .desks) (deliveryOf (a .desks) (a .channel) (a .s)) ∙ nobody (a .desks) (deliveryOf (a .desks) (a .channel) (a .s)) (c .if1 .left))
+    all-put (start _ _ _) (records-one (a .desks) (deliveryOf (a .desks) (a .channel) (a .s)) ∙ nobody (a .desks) (deliveryOf (a .desks) (a .channel) (a .s)) (c .if1 .left))
 
 pub put-send-spec : {M : Type 1} → statement M
 put-send-spec = tie.close (tie.spec (λ c κs. search needs) (λ c. search needs) returns returns-2)

@@ -4,7 +4,7 @@ use mathlib.Core.Path.{_∙_}
 use native.Mathlib.Omega.{arith}
 use Rattle.telegram.specs.Telegram.{num}
 use Rattle.telegram.proofs.Kept.{size-most}
-use Rattle.bodies.proofs.BodyLaws.{as-telegram}
+use Rattle.bodies.proofs.Kept.{as-telegram}
 use Rattle.records.proofs.RecordLaws.{form-long, formed, formed-long, told}
 use borrow.Author.Needs.{needs}
 use Rattle.records.proofs.writer.put_telegram.Statement.{statement}

@@ -1,7 +1,7 @@
 -- `records::writer::put_to` meets its contract: a contact needs no form, and for a telegram it is made.
 -- Assumes nothing.
 use mathlib.Core.Path.{_∙_, sym}
-use Rattle.bodies.proofs.BodyLaws.{no-form}
+use Rattle.bodies.proofs.Kept.{no-form}
 use borrow.Author.Needs.{needs}
 use Rattle.records.proofs.writer.put_to.Statement.{statement}
 use Rattle.records.proofs.writer.put_to.Tie as tie

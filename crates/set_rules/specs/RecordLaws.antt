@@ -1,0 +1,72 @@
+-- What the crates of code cite of records and answers, beside the promises: laws, each under the name given with it in
+-- `proofs/Kept.antt`. They are proved, and no rule rests on them.
+use Prim.Native.Nat.{ℕ, zero, suc, _/_, _%_, _<_}
+use mathlib.Core.List.{List}
+use mathlib.Core.Path.{_≡_}
+use lib.Dec.{eqb}
+use lib.ListN.{length}
+use Rattle.laws.specs.Each.{Each}
+use Rattle.channel.specs.State.{isIn}
+use Rattle.channel.specs.declared.state.Channel.{Channel}
+use Rattle.channel.specs.declared.state.Send.{Send}
+use Rattle.line_rules.specs.Notices.{Content}
+use Rattle.set_rules.specs.Records.{Delivery, delivered, recordFor, recordSize, recordsOf, spaceOf}
+use Rattle.set_rules.specs.SetRules.{Effect, sendsOf}
+use Rattle.set_rules.specs.Feeds.{Outcome, Gives, refuse, emit}
+use Rattle.set_rules.specs.declared.state.Answer.{Answer}
+use Rattle.set_rules.specs.declared.state.Desk.{Desk}
+use Rattle.set_rules.specs.declared.state.LineSet.{LineSet}
+
+-- ---- how long records are
+
+-- what a delivery says takes the same space to each desk
+abbrev pub Even : Delivery → Type 0
+Even v = (d : ℕ) → recordSize (v .content d) ≡ recordSize (v .content 0)
+
+abbrev pub AllEven : List Delivery → Type 0
+AllEven = Each Even
+
+-- A record is as long as its size says (`record-length`), and records as the space that is summed for them (`space-length`).
+abbrev pub RecordIsLong : Type 0
+RecordIsLong = (ds : List Desk) (d : ℕ) (x : Content) → length (recordFor ds d x) ≡ recordSize x
+
+abbrev pub SpaceIsLength : Type 0
+SpaceIsLength = (ds : List Desk) (vs : List Delivery) → AllEven vs → spaceOf vs ≡ length (recordsOf ds vs)
+
+-- What one channel sends takes the same space to each desk (`even-sends`), and so does what all send (`even-all`).
+abbrev pub EvenSends : Type 0
+EvenSends = (ds : List Desk) (ch : ℕ) (ss : List Send) → AllEven (delivered ds ch ss)
+
+abbrev pub EvenAll : Type 0
+EvenAll = (ds : List Desk) (f : Channel → List Send) (cs : List Channel) → AllEven (sendsOf ds f cs)
+
+-- ---- the desks of a mask, one after another
+
+-- a mask without its lowest d bits
+unfoldable pub halves : ℕ → ℕ → ℕ
+halves zero m = m
+halves (suc d) m = halves d (m / 2)
+
+-- One bit more is a half (`halves-half`), and a desk is in the mask if the lowest bit left is 1 (`in-halves`).
+abbrev pub OneMoreHalf : Type 0
+OneMoreHalf = (d m : ℕ) → halves (suc d) m ≡ halves d m / 2
+
+abbrev pub LowestBit : Type 0
+LowestBit = (d m : ℕ) → isIn d m ≡ eqb (halves d m % 2) 1
+
+-- ---- answers and buffers
+
+-- Equal outcomes give the same, whichever they are (`gives-as`).
+abbrev pub GivesAlike : Outcome → Outcome → Answer → List ℕ → List ℕ → Type 0
+GivesAlike o o′ r b a = o ≡ o′ → Gives o r b a → Gives o′ r b a
+
+-- A refusal leaves set and buffer (`left-as-was`), and what there is no room for is refused (`no-room`).
+abbrev pub LeftAsWas : Type 0
+LeftAsWas = (s : LineSet) (n : ℕ) (b : List ℕ) → Gives (refuse n s) (record { set = s; count = 0; refusal = n }) b b
+
+abbrev pub NoRoom : LineSet → List ℕ → Effect → Answer → Type 0
+NoRoom s b f r = length b < spaceOf (f .sent) → Gives (refuse 16 s) r b b → Gives (emit s f (length b)) r b b
+
+-- the answer to what is not refused
+abbrev pub done : LineSet → ℕ → Answer
+done t n = record { set = t; count = n; refusal = 0 }
