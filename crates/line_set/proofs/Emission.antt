@@ -1,35 +1,22 @@
--- Answers and buffers as outcomes give them: a refusal leaves the buffer, and records that fit stand at its front.
+-- Answers as outcomes give them: what all channels send takes the same space to each desk, and a set that is stored unless the
+-- entry is refused.
 -- Assumes nothing.
-use Prim.Native.Nat.{ℕ, _≤_, _<_}
+use Prim.Native.Nat.{ℕ}
 use mathlib.Core.List.{List}
-use mathlib.Core.Path.{_≡_, refl, sym, ap, ap₂, _∙_}
-use native.Mathlib.Omega.{arith}
+use mathlib.Core.Path.{_≡_, sym, ap, _∙_}
 use lib.ListN.{length}
-use borrow.Author.Tests.{lt-leb, eq-eqb, ne-eqb}
-use Rattle.records.specs.Emitting.{PutAt}
+use borrow.Author.Tests.{eq-eqb, ne-eqb}
 use Rattle.set_rules.specs.State.{channelsOf}
-use Rattle.set_rules.specs.Records.{recordsOf, spaceOf}
-use Rattle.set_rules.specs.SetRules.{Effect, onTick, onHandover}
-use Rattle.set_rules.specs.Feeds.{Outcome, Gives, refuse, emit, stepOf}
-use Rattle.set_rules.proofs.Answers.{AllEven, even-all, space-length, refused}
+use Rattle.set_rules.specs.SetRules.{onTick, onHandover}
+use Rattle.set_rules.specs.Feeds.{Outcome, Gives, stepOf}
+use Rattle.set_rules.specs.RecordLaws.{AllEven}
+use Rattle.set_rules.proofs.Kept.{even-all, refused}
 use Rattle.set_rules.specs.declared.state.LineSet.{LineSet}
 use Rattle.set_rules.specs.declared.state.Answer.{Answer}
-use Rattle.changes.proofs.Changing.{done, emitted}
-use Rattle.line_set.specs.Plans.{settled}
+use Rattle.planning.specs.Plans.{settled}
 
 abbrev pub answer : LineSet → ℕ → ℕ → Answer
 answer t n k = record { set = t; count = n; refusal = k }
-
-pub left-as-was : (s : LineSet) (n : ℕ) (b : List ℕ) → Gives (refuse n s) (answer s 0 n) b b
-left-as-was s n b = record { answer = refl; bytes = refl }
-
-pub no-room : (s : LineSet) (f : Effect) (b : List ℕ) → length b < spaceOf (f .sent) → Gives (emit s f (length b)) (answer s 0 16) b b
-no-room s f b h = rw (lt-leb (spaceOf (f .sent)) (length b) h) (left-as-was s 16 b)
-
--- records that fit were put at the front
-pub put : (s : LineSet) (f : Effect) (b : List ℕ) {t : LineSet} {at : ℕ} {a : List ℕ} → spaceOf (f .sent) ≤ length b → AllEven (f .sent)
-    → PutAt 0 (recordsOf (f .desks) (f .sent)) at b a → t ≡ f .after → Gives (emit s f (length b)) (done t at) b a
-put s f b h e p k = emitted s f b h e (p .1) (ap₂ done k (omega (arith, p .0, space-length (f .desks) (f .sent) e)))
 
 pub even-handover : (s : LineSet) → AllEven (onHandover s .sent)
 unfolding onHandover

@@ -1,7 +1,7 @@
-pub mod Lengths
-pub mod Seeking
-pub mod WholeSet
-pub mod Emission
-pub mod Turns
-pub mod Ticking
-pub mod OneStep
+mod Lengths
+mod Seeking
+mod WholeSet
+mod Emission
+mod Turns
+mod Ticking
+mod OneStep

@@ -26,16 +26,17 @@ use Rattle.channel.specs.declared.state.Falling.the-variants.{Neither, Quiet, R
 use Rattle.channel.specs.declared.state.Event.the-variants.{Tick}
 use Rattle.channel.specs.declared.state.Send.{Send}
 use Rattle.records.specs.Emitting.{PutAt}
-use Rattle.records.proofs.Writing.{Writing, written-none, start, next, room, done as written-all}
+use Rattle.records.specs.Promises.{Writing}
+use Rattle.records.proofs.Kept.{written-none, start, next, room, all-put, put-first}
 use Rattle.set_rules.specs.State.{noChannel, channelsOf, listenersOf, withChannels}
 use Rattle.set_rules.specs.Records.{delivered, recordsOf, spaceOf}
 use Rattle.set_rules.specs.SetRules.{movedIn, sentIn, ticked, tickSends, onTick}
 use Rattle.set_rules.specs.Feeds.{Gives, emit}
-use Rattle.set_rules.proofs.Answers.{space-length}
+use Rattle.set_rules.proofs.Kept.{space-length}
 use Rattle.set_rules.specs.declared.state.Desk.{Desk}
 use Rattle.set_rules.specs.declared.state.LineSet.{LineSet}
-use Rattle.changes.proofs.Changing.{done}
-use Rattle.line_set.proofs.Emission.{even-tick, put}
+use Rattle.set_rules.specs.RecordLaws.{done}
+use Rattle.line_set.proofs.Emission.{even-tick}
 use Rattle.line_set.proofs.Turns.{At, left, Summed, sum-first, sum-next, put-turn, put-end}
 
 -- ---- a list whose elements are changed one by one
@@ -198,5 +199,5 @@ module _ (s : LineSet) (b₀ : List ℕ) {t : LineSet} {b : List ℕ} {at : ℕ}
   tick-last i need end k l h e sc m =
       let n = length (channelsOf s) in
       let all = rest-turns (n - i) i (omega arith) (λ j c g q. sc .rest j c (omega arith) (omega (arith, q .within)) q) m in
-      put s (onTick s) b₀ (all .fits) (even-tick s) (written-all (all .bytes) (put-end (s .desks) (tickOf s) (channelsOf s) n (omega arith)))
+      put-first s (onTick s) b₀ (all .fits) (even-tick s) (all-put (all .bytes) (put-end (s .desks) (tickOf s) (channelsOf s) n (omega arith)))
       (all .others ∙ ap (λ (cs : List Channel). withChannels cs s) (all .channels ∙ changed-last _ (s .channels) (s .size .channels) n refl))

@@ -14,7 +14,7 @@ use Rattle.laws.proofs.Lists.{at-taken}
 use Rattle.channel.specs.declared.state.Channel.{Channel}
 use Rattle.channel.specs.declared.state.Event.the-variants.{EndTalk, EndCall}
 use Rattle.channel.specs.declared.state.Send.{Send}
-use Rattle.records.proofs.Writing.{Split}
+use Rattle.records.specs.Promises.{Split}
 use Rattle.set_rules.specs.Records.{Delivery, delivered, toEach, recordsOf, spaceOf}
 use Rattle.set_rules.specs.SetRules.{sentIn, sendsOf, endSends}
 use Rattle.set_rules.specs.State.{noChannel, channelsOf}

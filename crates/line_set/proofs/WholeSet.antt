@@ -2,35 +2,24 @@
 -- Assumes nothing.
 use Prim.Native.Nat.{ℕ, _≤_, _<_}
 use mathlib.Core.List.{List}
-use mathlib.Core.Bool.{Bool, true, false, _&&_}
+use mathlib.Core.Bool.{true, false, _&&_}
 use mathlib.Core.Path.{_≡_, refl, sym, ap, _∙_}
 use native.Mathlib.Omega.{arith}
 use lib.Dec.{eqb}
 use lib.ListN.{length}
 use borrow.Author.Tests.{eqb-true}
 use Rattle.laws.proofs.Tests.{both}
-use Rattle.plans.specs.Planned.{planOf}
 use Rattle.laws.specs.Table.{pick}
 use Rattle.set_rules.specs.Entries.{planIn, readEntry}
-use Rattle.set_rules.specs.Plan.{planOk, setOf}
 use Rattle.set_rules.specs.Refusals.{firstOf, refusalOf}
-use Rattle.set_rules.specs.SetRules.{accepted, onPlan, onTick, onHandover}
+use Rattle.set_rules.specs.SetRules.{accepted, onTick, onHandover}
 use Rattle.set_rules.specs.Feeds.{Gives, refuse, emit, outcomeOf, stepOf}
 use Rattle.set_rules.specs.declared.state.Entry.{Entry}
 use Rattle.set_rules.specs.declared.state.LineSet.{LineSet}
 use Rattle.set_rules.specs.declared.state.Answer.{Answer}
-use Rattle.changes.proofs.Changing.{gives-as}
-use Rattle.line_set.specs.Plans.{settled, PlanGives}
+use Rattle.set_rules.proofs.Kept.{gives-as}
+use Rattle.planning.specs.Plans.{settled, PlanGives}
 use Rattle.line_set.proofs.Lengths.{long-enough, kind-read}
-
-module _ (s : LineSet) (e : List ℕ) (x : Entry) (room : ℕ) (z : x .refusal ≡ 0) (k : x .kind ≡ 7) (h : s .planned ≡ false) where
-  pub plan-bad : planOk (planIn e) ≡ false → refuse 6 s ≡ outcomeOf s e x room
-  unfolding outcomeOf refusalOf firstOf
-  plan-bad o = sym (rw (z, k, h, o) refl)
-
-  pub plan-good : planOk (planIn e) ≡ true → emit s (onPlan (planIn e)) room ≡ outcomeOf s e x room
-  unfolding outcomeOf refusalOf firstOf accepted pick
-  plan-good o = sym (rw (z, k, h, o) refl)
 
 -- ---- an entry x that was read from the bytes e
 
@@ -66,17 +55,3 @@ module _ (s : LineSet) (e : List ℕ) (x : Entry) (is : x ≡ readEntry e) where
       let b = both (s .planned) (eqb (x .kind) 8) t in
       let k = eqb-true (x .kind) 8 (b .1) in
       sym (rw (could-read 8 (omega arith) k, k, b .0) refl) ∙ as-step room
-
--- ---- what the reader of plans answers
-
-pub plan-ok : (p : List ℕ) → planOf p .ok ≡ planOk p
-unfolding planOf
-plan-ok p = go (planOk p) refl
-  where
-    go : (t : Bool) → planOk p ≡ t → planOf p .ok ≡ planOk p
-    go true k = rw k
-    go false k = rw k
-
-pub plan-set : (p : List ℕ) → planOk p ≡ true → planOf p .set ≡ setOf p
-unfolding planOf
-plan-set p k = rw k

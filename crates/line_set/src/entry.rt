@@ -1,7 +1,6 @@
 // One entry.
 use super::all;
 use super::places;
-use super::plan;
 use channel::Event;
 use channel::Falling;
 use requests::Asked;
@@ -25,7 +24,7 @@ pub fn step(mut set: LineSet, entry: &[u8], buffer: &mut [u8]) -> Answer
         if set.planned {
             refusal = 5;
         } else {
-            let a = plan::plan(&entry[4..], buffer);
+            let a = planning::plan(&entry[4..], buffer);
             written = a.count;
             refusal = a.refusal;
             if a.refusal == 0 {

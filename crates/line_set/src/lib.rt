@@ -2,6 +2,5 @@
 mod all;
 mod entry;
 mod places;
-mod plan;
 
 pub use entry::step;

@@ -3,7 +3,8 @@
 use Prim.Native.Nat.{_-_, _≤_}
 use native.Mathlib.Omega.{arith}
 use Rattle.set_rules.specs.State.{channelsOf}
-use Rattle.records.proofs.Writing.{Writing, start, next, room, done}
+use Rattle.records.specs.Promises.{Writing}
+use Rattle.records.proofs.Kept.{start, next, room, all-put}
 use Rattle.set_rules.specs.Records.{recordsOf}
 use Rattle.set_rules.specs.SetRules.{endSends, onHandover}
 use borrow.Author.Needs.{needs}
@@ -61,7 +62,7 @@ returns c =
     let s = st .args .t1 in
     let l = c .before .loop in
     let e = counted (s .channels) (s .size .channels) _ _ (st .good .0 .1 .1 .0 .1 .0 .1) (c .before .before .count-of .ensures .0) in
-    done (l .inv .0) (put-end (s .desks) (endSends (s .desks) (s .size .desks)) (channelsOf s) (l .i) (omega (arith, e, c .loop-test .left)))
+    all-put (l .inv .0) (put-end (s .desks) (endSends (s .desks) (s .size .desks)) (channelsOf s) (l .i) (omega (arith, e, c .loop-test .left)))
 
 pub put-all-spec : {M : Type 1} → statement M
 put-all-spec =

@@ -6,7 +6,7 @@ use mathlib.Core.Path.{ap, _∙_}
 use lib.ListN.{length}
 use denote.Ref.{now}
 use Rattle.records.specs.Emitting.{written}
-use Rattle.changes.proofs.Heard.{same-records}
+use Rattle.changes.proofs.Kept.{same-records}
 use borrow.Author.Needs.{needs}
 use Rattle.line_set.proofs.all.put_in.Statement.{statement}
 use Rattle.line_set.proofs.all.put_in.Tie as tie

@@ -1,7 +1,7 @@
 -- `line_set::all::space_in` meets its contract: sends to nobody take no space.
 -- Assumes nothing.
 use mathlib.Core.Path.{_∙_}
-use Rattle.changes.proofs.Heard.{same-space}
+use Rattle.changes.proofs.Kept.{same-space}
 use borrow.Author.Needs.{needs}
 use Rattle.line_set.proofs.all.space_in.Statement.{statement}
 use Rattle.line_set.proofs.all.space_in.Tie as tie

@@ -18,13 +18,13 @@ use Rattle.set_rules.specs.Entries.{readEntry}
 use Rattle.set_rules.specs.Records.{spaceOf}
 use Rattle.set_rules.specs.SetRules.{onTick, onHandover}
 use Rattle.set_rules.specs.declared.state.LineSet.{LineSet}
-use Rattle.set_rules.proofs.Answers.{space-length}
+use Rattle.set_rules.proofs.Kept.{space-length, gives-as, left-as-was, no-room}
+use Rattle.records.proofs.Kept.{put-first}
 use Rattle.requests.specs.Asking.{seen, askedOf}
 use Rattle.requests.specs.declared.request.Asked.{Asked}
 use Rattle.changes.specs.Changes.{Asks}
-use Rattle.changes.proofs.Changing.{gives-as}
-use Rattle.changes.proofs.Rules.{refused-as, linked-as}
-use Rattle.line_set.proofs.Emission.{even-handover, left-as-was, no-room, put, settled-new, settled-old, kept}
+use Rattle.changes.proofs.Kept.{refused-as, linked-as}
+use Rattle.line_set.proofs.Emission.{even-handover, settled-new, settled-old, kept}
 use Rattle.line_set.proofs.WholeSet.{as-step, plan-starts, plan-present, plan-taken, tick-step, handover-step}
 use Rattle.line_set.proofs.OneStep.{asks}
 use Rattle.line_set.proofs.Seeking.{Sought, sought-first, sought-next, sought-found, sought-last, counted}
@@ -119,7 +119,7 @@ returns-4 : tie.Need-returns-4 Inv-loop μ-loop Inv-loop2 μ-loop2 Inv-loop3 μ-
 returns-4 c =
     let k = c .before .before .before .before .before .before in
     gives-as (handover-step (set-at k) (entry-at k) _ (read-at k) (length (buffer-at k)) (c .before .before .if4 .taken))
-    (no-room (set-at k) (onHandover (set-at k)) (buffer-at k) (omega (arith, c .before .space-all .ensures, c .if5 .taken)))
+    (no-room (set-at k) (buffer-at k) (onHandover (set-at k)) (omega (arith, c .before .space-all .ensures, c .if5 .taken)) (left-as-was (set-at k) 16 (buffer-at k)))
 
 returns-5 : tie.Need-returns-5 Inv-loop μ-loop Inv-loop2 μ-loop2 Inv-loop3 μ-loop3
 unfolding onHandover
@@ -127,7 +127,7 @@ returns-5 c =
     let k = c .before .before .before .before .before .before .before .before .before .before .before in
     let s = set-at k in
     gives-as (handover-step s (entry-at k) _ (read-at k) (length (buffer-at k)) (c .before .before .before .before .before .before .before .if4 .taken))
-    (put s (onHandover s) (buffer-at k) (omega (arith, c .before .before .before .before .before .before .space-all .ensures, c .before .before .before .before .before .if5 .left)) (even-handover s) (c .before .before .before .put-all .ensures) (c .new .ensures))
+    (put-first s (onHandover s) (buffer-at k) (omega (arith, c .before .before .before .before .before .before .space-all .ensures, c .before .before .before .before .before .if5 .left)) (even-handover s) (c .before .before .before .put-all .ensures) (c .new .ensures))
 
 -- ---- a tick: the space
 
@@ -165,7 +165,7 @@ returns-6 : tie.Need-returns-6 Inv-loop μ-loop Inv-loop2 μ-loop2 Inv-loop3 μ-
 returns-6 c =
     let k = c .before .before .before .before .before .before .before .before .before in
     gives-as (tick-step (set-at k) (entry-at k) _ (read-at k) (length (buffer-at k)) (c .before .before .before .if6 .taken))
-    (no-room (set-at k) (onTick (set-at k)) (buffer-at k) (omega (arith, total-is (c .before), c .if7 .taken)))
+    (no-room (set-at k) (buffer-at k) (onTick (set-at k)) (omega (arith, total-is (c .before), c .if7 .taken)) (left-as-was (set-at k) 16 (buffer-at k)))
 
 -- ---- a tick: the records and the channels
 

@@ -1,4 +1,4 @@
--- `line_set::plan::plan` meets its contract: a plan that breaks no rule makes the set anew, if there is room for the requests.
+-- `planning::taking::plan` meets its contract: a plan that breaks no rule makes the set anew, if there is room for the requests.
 -- Assumes nothing.
 use Prim.Native.Nat.{ℕ, _+_}
 use mathlib.Core.Bool.{true}
@@ -19,13 +19,12 @@ use Rattle.set_rules.specs.Plan.{planOk}
 use Rattle.set_rules.specs.Records.{recordsOf, spaceOf}
 use Rattle.set_rules.specs.SetRules.{onPlan}
 use Rattle.set_rules.specs.declared.state.LineSet.{LineSet}
-use Rattle.set_rules.proofs.Answers.{space-length}
-use Rattle.changes.proofs.Changing.{gives-as}
-use Rattle.line_set.proofs.WholeSet.{plan-bad, plan-good, plan-ok, plan-set}
-use Rattle.line_set.proofs.Emission.{left-as-was, no-room, put}
+use Rattle.set_rules.proofs.Kept.{space-length, gives-as, left-as-was, no-room}
+use Rattle.planning.proofs.PlanLaws.{plan-bad, plan-good, plan-ok, plan-set}
+use Rattle.records.proofs.Kept.{put-first}
 use borrow.Author.Needs.{needs}
-use Rattle.line_set.proofs.plan.plan.Statement.{statement}
-use Rattle.line_set.proofs.plan.plan.Tie as tie
+use Rattle.planning.proofs.taking.plan.Statement.{statement}
+use Rattle.planning.proofs.taking.plan.Tie as tie
 
 -- the request to the desks of the set that was read
 abbrev asked : LineSet → ℕ → ℕ
@@ -51,7 +50,7 @@ returns-2 c = λ s e x h z k w.
     let t = ap (λ (p : Plan). p .set) read ∙ plan-set (planIn e) ok in
     let m = c .before .before .first-desks .ensures ∙ ap (λ (y : LineSet). firstDesks (y .size .desks)) t in
     let total : c .before .space-to .result ≡ spaceOf (onPlan (planIn e) .sent) = c .before .space-to .ensures .0 (c .before .before .before .before .before .before .before .read-plan .result .set .desks) ∙ ap₂ asked t m in
-    gives-as (plan-good s e x (length b) z k h ok) (no-room s (onPlan (planIn e)) b (omega (arith, total, c .if2 .taken)))
+    gives-as (plan-good s e x (length b) z k h ok) (no-room s b (onPlan (planIn e)) (omega (arith, total, c .if2 .taken)) (left-as-was s 16 b))
 
 returns-3 : tie.Need-returns-3
 returns-3 c = λ s e x h z k w.
@@ -64,7 +63,7 @@ returns-3 c = λ s e x h z k w.
     let bytes = ap₂ (λ (y : LineSet) (k : ℕ). recordsOf (y .desks) (delivery (y .desks) k TimeRequest ∷ [])) t m in
     let records = c .before .before .put-to .ensures in
     gives-as (plan-good s e x (length b) z k h ok)
-    (put s (onPlan (planIn e)) b (omega (arith, total, c .before .before .before .before .if2 .left)) (λ k. refl, tt)
+    (put-first s (onPlan (planIn e)) b (omega (arith, total, c .before .before .before .before .if2 .left)) (λ k. refl, tt)
     (records .0 ∙ ap (λ (l : List ℕ). 0 + length l) bytes, records .1 ∙ ap (written b 0) bytes) t)
 
 pub plan-spec : {M : Type 1} → statement M

@@ -1,7 +1,7 @@
 // A plan makes the set anew, and each desk is asked for the time.
 use bodies::Body;
 use set_rules::Answer;
-ghost use Rattle.line_set.specs.Plans.{PlanGives};
+ghost use Rattle.planning.specs.Plans.{PlanGives};
 
 // An entry that is a plan, by the bytes of the plan, where there is none yet. Where it is refused, the set given is not to be
 // used.
