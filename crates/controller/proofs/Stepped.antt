@@ -5,7 +5,7 @@ use mathlib.Core.Path.{refl, sym, ap, _∙_}
 use lib.Dec.{eqb}
 use borrow.Author.Tests.{eq-eqb, ne-eqb}
 use Rattle.laws.proofs.Tests.{by-test}
-use Rattle.set_rules.proofs.Answers.{refused}
+use Rattle.set_rules.proofs.Kept.{refused}
 use Rattle.set_rules.specs.Feeds.{stepOf}
 use Rattle.plain_set.specs.Plain.{setIn, plainOf}
 use Rattle.plain_set.proofs.Returns.{returns}

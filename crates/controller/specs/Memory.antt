@@ -39,9 +39,9 @@ abbrev pub keptOf : PlainSet → Outcome → Kept
 keptOf p o = record { set = plainAfter p o; count = o .count; refusal = o .refusal }
 
 -- an entry for numbers with a buffer: its answer, and the buffer after it
-abbrev pub Keeps : PlainSet → List ℕ → Kept → List ℕ → List ℕ → Type 0
-Keeps p e r before after =
-    (r ≡ keptOf p (stepOf (setIn p) e (length before))) × (after ≡ over (stepOf (setIn p) e (length before) .bytes) before)
+pub record Keeps (p : PlainSet) (e : List ℕ) (r : Kept) (before after : List ℕ) : Type 0 where
+  pub answer : r ≡ keptOf p (stepOf (setIn p) e (length before))
+  pub bytes : after ≡ over (stepOf (setIn p) e (length before) .bytes) before
 
 -- the same where the numbers and the count lie in the caller's memory: q and n are what lies there after it
 abbrev pub KeepsIn : PlainSet → List ℕ → ℕ → ℕ → PlainSet → List ℕ → List ℕ → Type 0

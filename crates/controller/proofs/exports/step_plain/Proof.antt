@@ -28,11 +28,13 @@ returns c =
     let b = now (st .args .buffer) in
     let a = c .before .before .before .before .step .result in
     let f = c .before .before .before .before .step .ensures in
-    let i = c .before .before .before .before .before .before .set-in .ensures in (
-      ap (λ (t : Bool). record { set = cond t (plainOf (p .layout) (a .set)) p; count = a .count; refusal = a .refusal }) (sym (ne-eqb (a .refusal) 0 (c .if1 .taken)))
-          ∙ ap (kept p) (f .answer ∙ ap (λ (s : LineSet). answerOf (stepOf s e (length b))) i),
-      f .bytes ∙ ap (λ (s : LineSet). over (stepOf s e (length b) .bytes) b) i,
-    )
+    let i = c .before .before .before .before .before .before .set-in .ensures in
+    record {
+      answer =
+          ap (λ (t : Bool). record { set = cond t (plainOf (p .layout) (a .set)) p; count = a .count; refusal = a .refusal }) (sym (ne-eqb (a .refusal) 0 (c .if1 .taken)))
+          ∙ ap (kept p) (f .answer ∙ ap (λ (s : LineSet). answerOf (stepOf s e (length b))) i);
+      bytes = f .bytes ∙ ap (λ (s : LineSet). over (stepOf s e (length b) .bytes) b) i;
+    }
 
 returns-2 : tie.Need-returns-2
 returns-2 c =
@@ -42,12 +44,14 @@ returns-2 c =
     let b = now (st .args .buffer) in
     let a = c .before .before .before .before .before .before .before .step .result in
     let f = c .before .before .before .before .before .before .before .step .ensures in
-    let i = c .before .before .before .before .before .before .before .before .before .set-in .ensures in (
-      ap (λ (q : PlainSet). record { set = q; count = a .count; refusal = a .refusal }) (c .plain-of .ensures)
+    let i = c .before .before .before .before .before .before .before .before .before .set-in .ensures in
+    record {
+      answer =
+          ap (λ (q : PlainSet). record { set = q; count = a .count; refusal = a .refusal }) (c .plain-of .ensures)
           ∙ (ap (λ (t : Bool). record { set = cond t (plainOf (p .layout) (a .set)) p; count = a .count; refusal = a .refusal }) (sym (eq-eqb (a .refusal) 0 (c .before .before .before .if1 .left)))
-          ∙ ap (kept p) (f .answer ∙ ap (λ (s : LineSet). answerOf (stepOf s e (length b))) i)),
-      f .bytes ∙ ap (λ (s : LineSet). over (stepOf s e (length b) .bytes) b) i,
-    )
+          ∙ ap (kept p) (f .answer ∙ ap (λ (s : LineSet). answerOf (stepOf s e (length b))) i));
+      bytes = f .bytes ∙ ap (λ (s : LineSet). over (stepOf s e (length b) .bytes) b) i;
+    }
 
 pub step-plain-spec : {M : Type 1} → statement M
 step-plain-spec =
