@@ -3,7 +3,7 @@
 use borrow.Author.Needs.{needs}
 use mathlib.Core.Path.{refl, sym}
 use Rattle.line_rules.specs.Rules.{cut}
-use Rattle.sends.proofs.Scripts.{send-by-send, heard-press-off}
+use Rattle.sends.proofs.Kept.{send-by-send, heard-press-off}
 use Rattle.holding.proofs.holding.cut_after.Statement.{statement}
 use Rattle.holding.proofs.holding.cut_after.Tie as tie
 

@@ -3,7 +3,7 @@
 use borrow.Author.Needs.{needs}
 use mathlib.Core.Path.{refl, sym}
 use Rattle.line_rules.specs.Rules.{endCall}
-use Rattle.sends.proofs.Scripts.{send-by-send, heard-sentIf}
+use Rattle.sends.proofs.Kept.{send-by-send, heard-sentIf}
 use Rattle.lines.proofs.rules.end_call.Statement.{statement}
 use Rattle.lines.proofs.rules.end_call.Tie as tie
 

@@ -3,7 +3,7 @@
 use borrow.Author.Needs.{needs}
 use mathlib.Core.Path.{refl, sym}
 use Rattle.line_rules.specs.Rules.{endTalk}
-use Rattle.sends.proofs.Scripts.{send-by-send, heard-press-off}
+use Rattle.sends.proofs.Kept.{send-by-send, heard-press-off}
 use Rattle.lines.proofs.rules.end_talk.Statement.{statement}
 use Rattle.lines.proofs.rules.end_talk.Tie as tie
 

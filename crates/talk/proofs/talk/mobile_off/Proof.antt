@@ -3,7 +3,7 @@
 use borrow.Author.Needs.{needs}
 use mathlib.Core.Path.{refl, sym}
 use Rattle.line_rules.specs.Rules.{mobileOff}
-use Rattle.sends.proofs.Scripts.{send-by-send}
+use Rattle.sends.proofs.Kept.{send-by-send}
 use Rattle.talk.proofs.talk.mobile_off.Statement.{statement}
 use Rattle.talk.proofs.talk.mobile_off.Tie as tie
 

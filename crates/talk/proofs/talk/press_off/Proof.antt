@@ -3,7 +3,7 @@
 use borrow.Author.Needs.{needs}
 use mathlib.Core.Path.{refl}
 use Rattle.line_rules.specs.Rules.{pressOff}
-use Rattle.sends.proofs.Scripts.{send-by-send, heard-press-off}
+use Rattle.sends.proofs.Kept.{send-by-send, heard-press-off}
 use Rattle.talk.proofs.talk.press_off.Statement.{statement}
 use Rattle.talk.proofs.talk.press_off.Tie as tie
 
