@@ -19,7 +19,7 @@ use Rattle.laws.proofs.Lists.{at-taken, take-count, drop-count}
 use Rattle.channel.proofs.state.Falling as falling-type
 use Rattle.line_rules.specs.Rules.{Step, happens}
 use Rattle.timers.specs.Falls.{falling, tickBy}
-use Rattle.timers.proofs.Ticks.{tick-by}
+use Rattle.timers.proofs.Kept.{tick-by}
 use Rattle.channel.specs.declared.state.Channel.{Channel}
 use Rattle.channel.specs.declared.state.Falling.{Falling}
 use Rattle.channel.specs.declared.state.Falling.the-variants.{Neither, Quiet, Release, Due}

@@ -1,1 +1,2 @@
-pub mod Ticks
+mod Ticks
+pub mod Kept

@@ -1,14 +1,14 @@
--- A tick goes by what it does to the timers, and how the tests of the code tell what that is.
+-- What a tick does where nobody talks, and how the tests of the code tell what it does to the timers.
 -- Assumes nothing.
 use Prim.Native.Nat.{ℕ, _-_, _<_, _≤_}
 use mathlib.Core.Bool.{Bool, true, false, cond, not, _&&_, _||_}
-use mathlib.Core.Path.{_≡_, refl, sym, ap, _∙_}
+use mathlib.Core.Path.{_≡_, refl, sym, _∙_}
 use borrow.Author.Tests.{lt-ltb, le-ltb, lt-leb, le-leb, eqb-true, eqb-false, ltb-true, ltb-false, not-true, not-false}
 use native.Mathlib.Omega.{arith}
 use lib.Dec.{eqb, leb, ltb}
 use Rattle.laws.proofs.Tests.{both, neither, by-test, cond-of}
 use Rattle.channel.specs.State.{isHeld, isPresent}
-use Rattle.line_rules.specs.Rules.{Step, isPressed, tick, tickIdle, tickQuiet, tickRelease}
+use Rattle.line_rules.specs.Rules.{Step, isPressed, tickIdle, tickQuiet, tickRelease}
 use Rattle.timers.specs.Falls.{falling, runOut, tickBy}
 use Rattle.channel.specs.declared.state.Channel.{Channel}
 use Rattle.channel.specs.declared.state.Falling.{Falling}
@@ -26,19 +26,11 @@ idle c =
     cond (ltb 0 (c .quiet)) (cond (leb (c .quiet) 1) Due (Quiet (c .quiet - 1)))
     (cond (isHeld (c .holder)) (cond (leb (c .release) 1) Due (Release (c .release - 1))) Neither)
 
-idle-by : (e : ℕ) (c : Channel) → tickIdle e c ≡ tickBy (idle c) e c
+pub idle-by : (e : ℕ) (c : Channel) → tickIdle e c ≡ tickBy (idle c) e c
 unfolding tickIdle tickQuiet tickRelease runOut
 idle-by e c =
     by-due (ltb 0 (c .quiet)) (leb (c .quiet) 1) (leb (c .release) 1) (isHeld (c .holder)) _ _ _ _ _
     ∙ sym (simp (cond-of (λ (f : Falling). tickBy f e c)) refl)
-
-pub tick-falling : (e : ℕ) (c : Channel) → tick e c ≡ tickBy (falling c) e c
-unfolding tick falling
-tick-falling e c = simp (cond-of (λ (f : Falling). tickBy f e c), idle-by) refl
-
--- where it is known what the tick does to the timers
-pub tick-by : (e : ℕ) (c : Channel) {f : Falling} → falling c ≡ f → tick e c ≡ tickBy f e c
-tick-by e c h = tick-falling e c ∙ ap (λ (g : Falling). tickBy g e c) h
 
 -- ---- the tests
 

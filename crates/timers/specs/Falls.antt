@@ -1,4 +1,4 @@
--- A tick as the code goes about it, by what it does to the timers. That it is the rule is `tick-falling` (`proofs/Ticks.antt`).
+-- A tick as the code goes about it, by what it does to the timers. That it is the rule is promised: `ByTimers` (`Promises.antt`).
 use Prim.Native.Nat.{ℕ, _-_}
 use mathlib.Core.List.{[]}
 use mathlib.Core.Bool.{cond}

@@ -3,7 +3,7 @@
 use borrow.Author.Needs.{needs}
 use mathlib.Core.Path.{refl, sym, _∙_}
 use Rattle.sends.specs.Scripts.{heard}
-use Rattle.timers.proofs.Ticks.{tick-falling}
+use Rattle.timers.proofs.Kept.{tick-falling}
 use Rattle.lines.proofs.ticking.tick_send.Statement.{statement}
 use Rattle.lines.proofs.ticking.tick_send.Tie as tie
 

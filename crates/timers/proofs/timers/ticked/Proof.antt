@@ -2,7 +2,7 @@
 -- Assumes nothing.
 use borrow.Author.Needs.{needs}
 use mathlib.Core.Path.{refl, sym, _∙_}
-use Rattle.timers.proofs.Ticks.{tick-falling}
+use Rattle.timers.proofs.Kept.{tick-falling}
 use Rattle.timers.proofs.timers.ticked.Statement.{statement}
 use Rattle.timers.proofs.timers.ticked.Tie as tie
 

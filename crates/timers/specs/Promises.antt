@@ -1,0 +1,15 @@
+-- What is promised of a tick, beside the contracts. `proofs/Kept.antt` has the proof of each under the name given with it, and
+-- is the one module of the proofs that other crates cite.
+use Prim.Native.Nat.{ℕ}
+use mathlib.Core.Path.{_≡_}
+use Rattle.line_rules.specs.Rules.{tick}
+use Rattle.timers.specs.Falls.{falling, tickBy}
+use Rattle.channel.specs.declared.state.Channel.{Channel}
+use Rattle.channel.specs.declared.state.Falling.{Falling}
+
+-- The rule's tick goes by what it does to the timers (`tick-falling`), also where that is known (`tick-by`).
+abbrev pub ByTimers : Type 0
+ByTimers = (e : ℕ) (c : Channel) → tick e c ≡ tickBy (falling c) e c
+
+abbrev pub ByKnownTimers : Falling → Type 0
+ByKnownTimers f = (e : ℕ) (c : Channel) → falling c ≡ f → tick e c ≡ tickBy f e c
