@@ -15,7 +15,7 @@ use Rattle.telegram.specs.declared.message.Number.{Number}
 use Rattle.telegram.specs.declared.message.Message.{Message}
 use Rattle.telegram.specs.declared.message.Message.the-variants.{CallerNotice as Notified, CaptureState as State}
 use Rattle.telegram.proofs.Kept.{size-most as telegram-most}
-use Rattle.telegram_forms.proofs.PutLaws.{put-caller, put-holder}
+use Rattle.telegram_forms.proofs.Kept.{put-caller, put-holder}
 use Rattle.line_rules.specs.Rules.{down}
 use Rattle.line_rules.specs.Notices.{telegram, contact, contentFor}
 use Rattle.channel.specs.declared.state.Notice.{Notice}

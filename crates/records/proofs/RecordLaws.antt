@@ -13,7 +13,7 @@ use Rattle.numerals.specs.Digits.{digitsOf}
 use Rattle.telegram.specs.Telegram.{sizeOf, num, telegramOf}
 use Rattle.telegram.specs.declared.message.Number.{Number}
 use Rattle.telegram.proofs.Kept.{length-telegram}
-use Rattle.telegram_forms.proofs.PutLaws.{length-padded, form-put}
+use Rattle.telegram_forms.proofs.Kept.{length-padded, form-put}
 use Rattle.line_rules.specs.Notices.{Content, telegram, contact}
 use Rattle.set_rules.specs.State.{noDesk, ownOf}
 use Rattle.set_rules.specs.Records.{Delivery, recordFor, recordSize, toEach, recordsOf}

@@ -1,1 +1,2 @@
-pub mod PutLaws
+mod PutLaws
+pub mod Kept

@@ -1,6 +1,6 @@
 -- Bytes put one behind the other: digits over the width, fields over the list of fields, and a telegram.
 -- Assumes nothing.
-use Prim.Native.Nat.{ℕ, zero, suc, _+_, _/_, _%_, _≤_, _<_}
+use Prim.Native.Nat.{ℕ, zero, suc, _+_, _/_, _≤_, _<_}
 use mathlib.Core.List.{List, [], _∷_, _++_}
 use mathlib.Core.Path.{_≡_, refl, ap, _∙_}
 use native.Mathlib.Nat.{zero-add}
@@ -12,31 +12,21 @@ use Rattle.numerals.specs.Digits.{digitsOf}
 use Rattle.fields.specs.Fields.{Field, plain, bytesOf}
 use Rattle.numerals.specs.Promises.{shifted}
 use Rattle.numerals.proofs.Kept.{length-digits, digits-none, digits-suc, digits-split}
-use Rattle.telegram.specs.Telegram.{rowOf, valuesOf, sizeOf, headed, telegramOf, over}
-use Rattle.telegram.specs.declared.message.Number.{Number}
-use Rattle.telegram.specs.declared.message.CallerNotice.{CallerNotice}
-use Rattle.telegram.specs.declared.message.CaptureState.{CaptureState}
+use Rattle.telegram.specs.Telegram.{rowOf, valuesOf, sizeOf, headed, telegramOf}
 use Rattle.telegram.specs.declared.message.Message.{Message}
 use Rattle.telegram.specs.declared.message.Message.the-variants.{CallerNotice as Notice, CaptureState as State}
 use Rattle.telegram.proofs.Kept.{size-most, length-telegram}
 use Rattle.telegram_forms.specs.Forms.{padded}
+use Rattle.telegram_forms.specs.Promises.{PutDigitByDigit, PutInTwo, PutCaller, PutHolder, Padded46, FormPut, FormOver}
 
 -- ---- digits
 
--- the digits of v, as the code stores them: each behind those before it
-abbrev pub digitwise : ℕ → List ℕ → ℕ → ℕ → List ℕ
-digitwise zero t at v = t
-digitwise (suc zero) t at v = set t at (48 + v % 10)
-digitwise (suc (suc w)) t at v = set (digitwise (suc w) t at (v / 10)) (at + suc w) (48 + v % 10)
-
-pub put-digits : (w : ℕ) (t : List ℕ) (at v : ℕ) → digitwise w t at v ≡ sets t at (digitsOf w v)
+pub put-digits : PutDigitByDigit
 put-digits zero t at v = rw digits-none
 put-digits (suc zero) t at v = rw (digits-suc, digits-none)
 put-digits (suc (suc w)) t at v = rw (put-digits (suc w) t at (v / 10), digits-suc (suc w) v, sets-append, length-digits)
 
--- two shorter fields are a longer one
-pub put-both : (a b : ℕ) (t : List ℕ) (at v : ℕ)
-    → sets (sets t at (digitsOf a (shifted b v))) (at + a) (digitsOf b v) ≡ sets t at (digitsOf (a + b) v)
+pub put-both : PutInTwo
 put-both a b t at v = rw (digits-split a b v, sets-append, length-digits)
 
 -- ---- fields
@@ -139,19 +129,15 @@ put-code : (z : List ℕ) (c : ℕ) (m : Message) → sets (sets z 0 (telegramOf
 put-code z c m = put-value 1 0 c c m m (omega arith) refl refl z
 
 -- another number in a caller notice, and in a capture state
-pub put-caller : (z : List ℕ) (c : ℕ) (m : CallerNotice) (n : Number)
-    → sets (sets z 0 (telegramOf c (Notice m))) 24 (digitsOf 8 (n .digits))
-    ≡ sets z 0 (telegramOf c (Notice (record { channel = m .channel; base = m .base; kind = m .kind; direction = m .direction; number = n; order = m .order })))
+pub put-caller : PutCaller
 put-caller z c m n = put-value 7 c c (n .digits) (Notice m) _ (omega arith) refl refl z
 
-pub put-holder : (z : List ℕ) (c : ℕ) (m : CaptureState) (n : Number)
-    → sets (sets z 0 (telegramOf c (State m))) 20 (digitsOf 8 (n .digits))
-    ≡ sets z 0 (telegramOf c (State (record { channel = m .channel; number = n; state = m .state })))
+pub put-holder : PutHolder
 put-holder z c m n = put-value 5 c c (n .digits) (State m) _ (omega arith) refl refl z
 
 -- ---- a telegram in a buffer
 
-pub length-padded : (bs : List ℕ) → length (padded bs) ≡ 46
+pub length-padded : Padded46
 unfolding padded
 length-padded bs = length-sets (replicate 46 0) 0 bs
 
@@ -163,14 +149,12 @@ copied n z bs b e h k =
     rw (sets-eq bs z 0 fits, sets-eq bs b 0 fits-too, take-at bs _ n e, zero-add, e)
 
 -- a form, under an organisation code; an array of 46 bytes has room for any telegram
-pub form-put : (c : ℕ) (m : Message) (b : List ℕ) → sizeOf m ≤ length b
-    → sets (take (sizeOf m) (padded (telegramOf 0 m)) ++ drop (sizeOf m) b) 6 (digitsOf 4 c) ≡ sets b 0 (telegramOf c m)
+pub form-put : FormPut
 unfolding padded
 form-put c m b h = rw (copied (sizeOf m) (replicate 46 0) (telegramOf 0 m) b (length-telegram 0 m) (size-most m) h) (put-code b c m)
 
 -- the same, with the bytes of the buffer behind it
-pub form-over : (c : ℕ) (m : Message) (b : List ℕ) → sizeOf m ≤ length b
-    → sets (take (sizeOf m) (padded (telegramOf 0 m)) ++ drop (sizeOf m) b) 6 (digitsOf 4 c) ≡ over (telegramOf c m) b
+pub form-over : FormOver
 form-over c m b h =
     let fits : 0 + length (telegramOf c m) ≤ length b = omega (arith, h, length-telegram c m) in
     form-put c m b h ∙ rw (sets-eq (telegramOf c m) b 0 fits, zero-add) refl

@@ -8,7 +8,7 @@ use lib.ListN.{set, length-set}
 use lib.Seq.{sets}
 use borrow.Author.Needs.{needs}
 use Rattle.numerals.specs.Digits.{digitsOf}
-use Rattle.telegram_forms.proofs.PutLaws.{put-digits}
+use Rattle.telegram_forms.proofs.Kept.{put-digits}
 use Rattle.telegram_copies.proofs.copying.put_four.Statement.{statement}
 use Rattle.telegram_copies.proofs.copying.put_four.Tie as tie
 

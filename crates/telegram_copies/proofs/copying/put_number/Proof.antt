@@ -1,7 +1,7 @@
 -- `telegram_copies::copying::put_number` meets its contract: the first four digits, and then the last four.
 -- Assumes nothing.
 use borrow.Author.Needs.{needs}
-use Rattle.telegram_forms.proofs.PutLaws.{put-both}
+use Rattle.telegram_forms.proofs.Kept.{put-both}
 use Rattle.telegram_copies.proofs.copying.put_number.Statement.{statement}
 use Rattle.telegram_copies.proofs.copying.put_number.Tie as tie
 

@@ -4,7 +4,7 @@ use mathlib.Core.Path.{_∙_, ap}
 use native.Mathlib.Omega.{arith}
 use lib.ListN.{length}
 use Rattle.telegram.proofs.Kept.{size-most}
-use Rattle.telegram_forms.proofs.PutLaws.{length-padded, form-over}
+use Rattle.telegram_forms.proofs.Kept.{length-padded, form-over}
 use borrow.Author.Needs.{needs}
 use Rattle.telegram_writer.proofs.writer.put.Statement.{statement}
 use Rattle.telegram_writer.proofs.writer.put.Tie as tie
