@@ -30,7 +30,7 @@ use Rattle.set_rules.specs.declared.state.Request.the-variants.{OfLink as LinkI
 use Rattle.requests.specs.Asking.{seen, early, asking, eventOf, askedOf}
 use Rattle.requests.specs.declared.request.Asked.{Asked}
 use Rattle.requests.specs.declared.request.Asked.the-variants.{Refusal, OfLink, OnChannel}
-use Rattle.requests.proofs.Asked.{foreign-refused}
+use Rattle.requests.proofs.Kept.{foreign-refused}
 use Rattle.judging.specs.Judging.{late, refusalBy}
 use Rattle.judging.specs.Promises.{OfLine}
 use Rattle.judging.proofs.Kept.{late-ask, late-line}

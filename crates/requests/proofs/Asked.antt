@@ -17,6 +17,7 @@ use Rattle.set_rules.specs.Refusals.{deskSends, codeIs, identifierIs, bodyReads
 use Rattle.set_rules.specs.declared.state.Request.{Request}
 use Rattle.set_rules.specs.declared.state.Request.the-variants.{OfLink as LinkIs, OnChannel as ChannelIs, Foreign}
 use Rattle.requests.specs.Asking.{asking, telegramAsked, inPhase, unless}
+use Rattle.requests.specs.Promises.{ForeignRefused}
 use Rattle.requests.specs.declared.request.Asked.{Asked}
 use Rattle.requests.specs.declared.request.Asked.the-variants.{Refusal, OfLink, OnChannel}
 
@@ -89,10 +90,7 @@ telegram-form d k phase (Refused n c i) = go (not (eqb n 8) && eqb c k) (not (eq
     go true false = refl
     go false u = refl
 
--- what no desk sends has a refusal up to 11
-pub foreign-refused : (d k phase : ℕ) (r : Reading) → askedIn d r ≡ Foreign
-    → _≡_ {A = ℕ} (cond (not (codeIs k r)) 8 (cond (not (identifierIs r)) 9 (cond (not (bodyReads r)) 10 (cond (not (eqb phase (phaseOf (askedIn d r)))) 11 0)))) 0
-    → ⊥
+pub foreign-refused : ForeignRefused
 unfolding asks
 foreign-refused d k phase (Telegram c m) f z = go (eqb c k) (rw (sent-asks d m, f) at z)
   where
