@@ -8,7 +8,7 @@ use Rattle.laws.proofs.Tests.{by-test}
 use Rattle.set_rules.proofs.Kept.{refused}
 use Rattle.set_rules.specs.Feeds.{stepOf}
 use Rattle.plain_set.specs.Plain.{setIn, plainOf}
-use Rattle.plain_set.proofs.Returns.{returns}
+use Rattle.plain_set.proofs.Kept.{returns}
 use Rattle.controller.specs.Promises.{Untouched, Stepped}
 
 pub untouched : Untouched

@@ -1,2 +1,2 @@
-pub mod Maps
-pub mod Returns
+mod Maps
+pub mod Kept

@@ -1,4 +1,4 @@
--- The numbers that a set is kept as are that set.
+-- The promise of `specs/Promises.antt`, kept: the one module of these proofs that other crates cite.
 -- Assumes nothing.
 use mathlib.Core.Bool.{Bool, true, false}
 use mathlib.Core.Path.{_≡_, refl}
