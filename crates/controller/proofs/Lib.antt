@@ -1,1 +1,1 @@
-pub mod Stepped
+mod Stepped

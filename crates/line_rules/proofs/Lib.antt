@@ -1,5 +1,5 @@
-pub mod Veil
-pub mod Traps
-pub mod Ranges
-pub mod Timers
+mod Veil
+mod Traps
+mod Ranges
+mod Timers
 pub mod Kept

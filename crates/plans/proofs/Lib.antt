@@ -1,4 +1,4 @@
-pub mod Filled
-pub mod Turns
-pub mod Pairs
-pub mod Answers
+mod Filled
+mod Turns
+mod Pairs
+mod Answers

@@ -1,2 +1,2 @@
-pub mod HeaderLaws
-pub mod StepLaws
+mod HeaderLaws
+mod StepLaws

@@ -1,1 +1,1 @@
-pub mod Count
+mod Count
