@@ -10,9 +10,9 @@ use lib.ListN.{length, drop, getD, drop-of-length-le}
 use lib.Seq.{drop-cons}
 use Rattle.line_rules.specs.Notices.{contentFor}
 use Rattle.channel.specs.declared.state.Send.{Send}
-use Rattle.set_rules.specs.State.{ownOf}
+use Rattle.set_state.specs.State.{ownOf}
 use Rattle.set_rules.specs.Records.{delivered, recordSize, spaceOf}
-use Rattle.set_rules.specs.declared.state.Desk.{Desk}
+use Rattle.set_state.specs.declared.state.Desk.{Desk}
 use Rattle.bodies.specs.Bodies.{shapeOf, sizeIn}
 use Rattle.bodies.specs.declared.body.Body.the-variants.{About}
 use Rattle.bodies.proofs.BodyLaws.{notice-size}

@@ -13,9 +13,9 @@ use Rattle.telegram_forms.specs.Forms.{padded}
 use Rattle.line_rules.specs.Notices.{Content, telegram, contact, contentFor}
 use Rattle.channel.specs.declared.state.Notice.the-variants.{PressAnswer, Incoming, BaseArrival, Call, PressNotice, CallerNotice, CaptureReply, CaptureState}
 use Rattle.channel.specs.declared.state.Send.{Send}
-use Rattle.set_rules.specs.State.{ownOf}
+use Rattle.set_state.specs.State.{ownOf}
 use Rattle.set_rules.specs.Records.{Delivery}
-use Rattle.set_rules.specs.declared.state.Desk.{Desk}
+use Rattle.set_state.specs.declared.state.Desk.{Desk}
 use Rattle.bodies.specs.declared.body.Body.{Body}
 use Rattle.bodies.specs.declared.body.Body.the-variants.{About, TimeRequest, OperationRequest}
 use Rattle.bodies.specs.declared.shape.Own.{Own}

@@ -3,7 +3,7 @@ use super::body::Body;
 use super::shape;
 use super::shape::Shape;
 use channel::Send;
-use set_rules::Desk;
+use set_state::Desk;
 ghost use mathlib.Core.Path.{_≡_};
 ghost use mathlib.Core.List.{List, [], _∷_};
 ghost use Prim.Native.Nat.{ℕ, _*_, _≤_};

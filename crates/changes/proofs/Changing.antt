@@ -9,11 +9,11 @@ use lib.Seq.{set-getD}
 use Rattle.channel.specs.declared.state.Channel.{Channel}
 use Rattle.channel.specs.declared.state.Event.{Event}
 use Rattle.line_rules.specs.Rules.{Step}
-use Rattle.set_rules.specs.State.{noChannel, withChannels}
+use Rattle.set_state.specs.State.{noChannel, withChannels}
 use Rattle.set_rules.specs.Records.{delivered}
 use Rattle.set_rules.specs.SetRules.{Effect, effect, movedIn, onChannel}
 use Rattle.set_rules.specs.Feeds.{Gives, answerOf, refuse}
-use Rattle.set_rules.specs.declared.state.LineSet.{LineSet}
+use Rattle.set_state.specs.declared.state.LineSet.{LineSet}
 use Rattle.changes.specs.Changes.{stored, unchanged, Stands}
 use Rattle.changes.specs.declared.change.Change.{Change}
 

@@ -11,7 +11,7 @@ use borrow.Author.Tests.{eqb-true}
 use Rattle.sends.specs.Scripts.{heard}
 use Rattle.channel.specs.declared.state.Send.{Send}
 use Rattle.set_rules.specs.Records.{delivered, recordsOf, spaceOf}
-use Rattle.set_rules.specs.declared.state.Desk.{Desk}
+use Rattle.set_state.specs.declared.state.Desk.{Desk}
 use Rattle.bodies.specs.Bodies.{deliveryOf}
 use Rattle.records.proofs.Kept.{nobody}
 use Rattle.changes.specs.Promises.{SameSpace, SameRecords}

@@ -11,8 +11,8 @@ use lib.Seq.{take-nil}
 use borrow.Author.Tests.{lt-ltb}
 use Rattle.laws.proofs.Lists.{tab, tab-all}
 use Rattle.channel.specs.State.{isIn}
-use Rattle.set_rules.specs.State.{isRunning, runningFrom}
-use Rattle.set_rules.specs.declared.state.Desk.{Desk}
+use Rattle.set_state.specs.State.{isRunning, runningFrom}
+use Rattle.set_state.specs.declared.state.Desk.{Desk}
 
 pub four : {A : Type 0} (xs : List A) (z : A) → length xs ≡ 4 → xs ≡ getD xs 0 z ∷ getD xs 1 z ∷ getD xs 2 z ∷ getD xs 3 z ∷ []
 unfolding tab

@@ -16,17 +16,17 @@ use Rattle.telegram.specs.declared.message.Number.{Number}
 use Rattle.telegram.specs.declared.message.Reading.{Reading}
 use Rattle.channel.specs.declared.state.Channel.{Channel}
 use Rattle.channel.specs.declared.state.Event.{Event}
-use Rattle.set_rules.specs.State.{ownOf, hasChannel, channelAt}
+use Rattle.set_state.specs.State.{ownOf, hasChannel, channelAt}
 use Rattle.set_rules.specs.Entries.{telegramIn}
 use Rattle.set_rules.specs.Refusals.{Lookup, lookup, Test, isKind, askedIn, deskOf, namedBy, firstOf, refusalOf}
 use Rattle.set_rules.specs.SetRules.{Effect, accepted, onChannel, onLink}
 use Rattle.set_rules.specs.Feeds.{refuse, emit, outcomeOf}
-use Rattle.set_rules.specs.declared.state.Desk.{Desk}
-use Rattle.set_rules.specs.declared.state.Entry.{Entry}
-use Rattle.set_rules.specs.declared.state.LineSet.{LineSet}
-use Rattle.set_rules.specs.declared.state.LinkRequest.{LinkRequest}
-use Rattle.set_rules.specs.declared.state.Request.{Request}
-use Rattle.set_rules.specs.declared.state.Request.the-variants.{OfLink as LinkIs, OnChannel as ChannelIs, Foreign}
+use Rattle.set_state.specs.declared.state.Desk.{Desk}
+use Rattle.set_state.specs.declared.state.Entry.{Entry}
+use Rattle.set_state.specs.declared.state.LineSet.{LineSet}
+use Rattle.set_state.specs.declared.state.LinkRequest.{LinkRequest}
+use Rattle.set_state.specs.declared.state.Request.{Request}
+use Rattle.set_state.specs.declared.state.Request.the-variants.{OfLink as LinkIs, OnChannel as ChannelIs, Foreign}
 use Rattle.requests.specs.Asking.{seen, early, asking, eventOf, askedOf}
 use Rattle.requests.specs.declared.request.Asked.{Asked}
 use Rattle.requests.specs.declared.request.Asked.the-variants.{Refusal, OfLink, OnChannel}

@@ -8,12 +8,12 @@ use lib.ListN.{length, getD, set}
 use Rattle.telegram.specs.declared.message.Number.{Number}
 use Rattle.channel.specs.declared.state.Channel.{Channel}
 use Rattle.channel.specs.declared.state.Event.{Event}
-use Rattle.set_rules.specs.State.{noChannel, placeIn, hasChannel, channelAt, withDesks, withChannels}
+use Rattle.set_state.specs.State.{noChannel, placeIn, hasChannel, channelAt, withDesks, withChannels}
 use Rattle.set_rules.specs.Feeds.{Outcome, Gives, outcomeOf}
-use Rattle.set_rules.specs.declared.state.Desk.{Desk}
-use Rattle.set_rules.specs.declared.state.Entry.{Entry}
-use Rattle.set_rules.specs.declared.state.LineSet.{LineSet}
-use Rattle.set_rules.specs.declared.state.Answer.{Answer}
+use Rattle.set_state.specs.declared.state.Desk.{Desk}
+use Rattle.set_state.specs.declared.state.Entry.{Entry}
+use Rattle.set_state.specs.declared.state.LineSet.{LineSet}
+use Rattle.set_state.specs.declared.state.Answer.{Answer}
 use Rattle.requests.specs.Asking.{seen, askedOf}
 use Rattle.requests.specs.declared.request.Asked.the-variants.{OnChannel}
 use Rattle.changes.specs.declared.change.Change.{Change}

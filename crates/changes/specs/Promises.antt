@@ -10,9 +10,9 @@ use Rattle.sends.specs.Scripts.{heard}
 use Rattle.set_rules.specs.Records.{delivered, recordsOf, spaceOf}
 use Rattle.set_rules.specs.SetRules.{onLink}
 use Rattle.set_rules.specs.Feeds.{refuse, emit, outcomeOf}
-use Rattle.set_rules.specs.declared.state.Desk.{Desk}
-use Rattle.set_rules.specs.declared.state.Entry.{Entry}
-use Rattle.set_rules.specs.declared.state.LinkRequest.{LinkRequest}
+use Rattle.set_state.specs.declared.state.Desk.{Desk}
+use Rattle.set_state.specs.declared.state.Entry.{Entry}
+use Rattle.set_state.specs.declared.state.LinkRequest.{LinkRequest}
 use Rattle.requests.specs.Asking.{seen, askedOf}
 use Rattle.requests.specs.declared.request.Asked.the-variants.{Refusal, OfLink}
 use Rattle.changes.specs.Changes.{setWith}

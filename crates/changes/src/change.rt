@@ -3,8 +3,8 @@ use super::lookup;
 use channel::Channel;
 use channel::Event;
 use channel::Moved;
-use set_rules::Desk;
-use set_rules::Entry;
+use set_state::Desk;
+use set_state::Entry;
 use telegram::Number;
 ghost use Prim.Native.Nat.{ℕ};
 ghost use mathlib.Core.Path.{_≡_};
@@ -70,7 +70,7 @@ pub fn change_of(
 ) -> Change
     ensures { λ r. ⌜ ((code : ℕ) → AnswersTo desks n x code number event found c r (now (buffer .entry)) (now (buffer .exit))) ⌝ }
 {
-    let desk = set_rules::desk_at(desks, x.desk);
+    let desk = set_state::desk_at(desks, x.desk);
     let own = desk.number;
     let refusal = judging::judge(x, number, own, found, c);
     if refusal != 0 {

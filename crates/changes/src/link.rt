@@ -1,8 +1,8 @@
 // What a telegram about a desk's link changes: the desks as they are after it.
 use super::lookup;
 use bodies::Body;
-use set_rules::Desk;
-use set_rules::LinkRequest;
+use set_state::Desk;
+use set_state::LinkRequest;
 ghost use mathlib.Core.Path.{_≡_};
 ghost use Rattle.set_rules.specs.SetRules.{timeTaken, answerTaken, onLink};
 ghost use Rattle.set_rules.specs.Feeds.{emit};
@@ -29,7 +29,7 @@ fn time_told(desks: [Desk; 4], d: u8, buffer: &mut [u8]) -> LinkChange
         };
     }
     records::put_to(buffer, 0, desks, recipients, Body::OperationRequest);
-    let desk = set_rules::desk_at(desks, d);
+    let desk = set_state::desk_at(desks, d);
     let link = desk.link.time_told();
     let after = lookup::linked(desks, d, link);
     LinkChange {
@@ -43,7 +43,7 @@ fn time_told(desks: [Desk; 4], d: u8, buffer: &mut [u8]) -> LinkChange
 fn answered(desks: [Desk; 4], d: u8, state: u32, buffer: &mut [u8]) -> LinkChange
     ensures { λ r. ⌜ InDesks desks (λ s. emit s (answerTaken s d state)) r (now (buffer .entry)) (now (buffer .exit)) ⌝ }
 {
-    let desk = set_rules::desk_at(desks, d);
+    let desk = set_state::desk_at(desks, d);
     let link = desk.link.answered(state);
     let after = lookup::linked(desks, d, link);
     LinkChange {

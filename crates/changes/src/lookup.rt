@@ -1,11 +1,11 @@
 // Desks by their place in the plan.
-use set_rules::Desk;
-use set_rules::Link;
+use set_state::Desk;
+use set_state::Link;
 ghost use mathlib.Core.Path.{_≡_};
 ghost use mathlib.Core.Bool.{_&&_, cond};
 ghost use Prim.Native.Nat.{_≤_};
 ghost use lib.ListN.{take};
-ghost use Rattle.set_rules.specs.State.{isRunning, runningFrom, linkedAt};
+ghost use Rattle.set_state.specs.State.{isRunning, runningFrom, linkedAt};
 
 // A desk's place in a set of desks, if it listens there.
 fn place_if(listens: bool, desk: Desk, place: u8) -> u8

@@ -23,10 +23,12 @@ setAlign = 4
 abbrev pub layoutNow : List ℕ
 layoutNow = 73 ∷ 77 ∷ 74 ∷ 1 ∷ []
 
+abbrev pub beginsAt : ℕ → List ℕ → Bool
+beginsAt i b = eqb (getD b i 0) (getD layoutNow i 0)
+
 -- bytes as long as a set that begin so
 abbrev pub isCurrent : List ℕ → Bool
-isCurrent b =
-    eqb (length b) setSize && (eqb (getD b 0 0) 73 && (eqb (getD b 1 0) 77 && (eqb (getD b 2 0) 74 && eqb (getD b 3 0) 1)))
+isCurrent b = eqb (length b) setSize && (beginsAt 0 b && (beginsAt 1 b && (beginsAt 2 b && beginsAt 3 b)))
 
 -- ---- an entry
 

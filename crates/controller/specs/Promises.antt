@@ -3,7 +3,7 @@ use Prim.Native.Nat.{ℕ}
 use mathlib.Core.List.{List}
 use mathlib.Core.Path.{_≡_}
 use Rattle.set_rules.specs.Feeds.{stepOf}
-use Rattle.set_rules.specs.declared.state.LineSet.{LineSet}
+use Rattle.set_state.specs.declared.state.LineSet.{LineSet}
 use Rattle.plain_set.specs.Plain.{setIn, plainOf}
 use Rattle.plain_set.specs.declared.plain.PlainSet.{PlainSet}
 use Rattle.controller.specs.Memory.{plainAfter}

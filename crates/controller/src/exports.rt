@@ -1,9 +1,9 @@
 // The functions that a caller in another language links. Each passes what lies behind its references on by value, so that
 // only the last two need a proof by hand.
 use plain_set::PlainSet;
-use set_rules::LineSet;
+use set_state::LineSet;
 ghost use mathlib.Core.Path.{_≡_};
-ghost use Rattle.set_rules.specs.State.{newSet};
+ghost use Rattle.set_state.specs.State.{newSet};
 ghost use Rattle.plain_set.specs.Plain.{plainOf, flagOf};
 ghost use Rattle.controller.specs.Memory.{setSize, setAlign, layoutNow, isCurrent, Keeps, KeepsIn};
 

@@ -6,7 +6,7 @@ use lib.Dec.{eqb}
 use lib.ListN.{length}
 use Rattle.numerals.specs.declared.digits.Digits.the-variants.{Malformed}
 use Rattle.set_rules.specs.Entries.{bad, asks, payload, payloadOk}
-use Rattle.set_rules.specs.declared.state.Entry.{Entry}
+use Rattle.set_state.specs.declared.state.Entry.{Entry}
 
 -- what an entry of a kind asks for, or refusal 3
 unfoldable pub payloadIn : ℕ → List ℕ → Entry

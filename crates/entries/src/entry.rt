@@ -1,6 +1,6 @@
 // Entries: the length, the version, the kind, and what the kind's payload has.
 use numerals::Digits;
-use set_rules::Entry;
+use set_state::Entry;
 ghost use mathlib.Core.Path.{_≡_};
 ghost use Rattle.numerals.specs.declared.digits.Digits.the-variants.{Malformed};
 ghost use Rattle.set_rules.specs.Entries.{measured, bad, asks, readEntry};
@@ -135,7 +135,7 @@ fn is_measured(entry: &[u8]) -> bool
     if entry.len() < 4 {
         return false;
     }
-    let length = set_rules::word(entry);
+    let length = set_state::word(entry);
     (length + 2 == entry.len()) & (length <= 12000)
 }
 

@@ -10,7 +10,7 @@ use Rattle.channel.specs.State.{isIn, heldBy, isPresent}
 use Rattle.channel.specs.declared.state.Channel.{Channel}
 use Rattle.line_rules.specs.Rules.{isPressed}
 use Rattle.set_rules.specs.Refusals.{Test, table, isKind, isCaller}
-use Rattle.set_rules.specs.declared.state.Entry.{Entry}
+use Rattle.set_state.specs.declared.state.Entry.{Entry}
 
 -- the table behind the rows 4 to 11, which do not look at a channel
 abbrev pub late : List (ℕ × Test)

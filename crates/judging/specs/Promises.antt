@@ -8,8 +8,8 @@ use Rattle.telegram.specs.declared.message.Number.{Number}
 use Rattle.telegram.specs.declared.message.Reading.{Reading}
 use Rattle.channel.specs.declared.state.Event.{Event}
 use Rattle.set_rules.specs.Refusals.{Lookup, askedIn, deskOf, firstOf}
-use Rattle.set_rules.specs.declared.state.Entry.{Entry}
-use Rattle.set_rules.specs.declared.state.Request.the-variants.{OnChannel}
+use Rattle.set_state.specs.declared.state.Entry.{Entry}
+use Rattle.set_state.specs.declared.state.Request.the-variants.{OnChannel}
 use Rattle.judging.specs.Judging.{late, refusalBy}
 
 -- a telegram about a channel (`late-ask`)

@@ -2,7 +2,7 @@
 use channel::Channel;
 use channel::Party;
 use numerals::Digits;
-use set_rules::Entry;
+use set_state::Entry;
 use telegram::Number;
 ghost use mathlib.Core.Path.{_≡_};
 ghost use mathlib.Core.Bool.{cond};

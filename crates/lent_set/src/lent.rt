@@ -1,7 +1,7 @@
 // A set that is lent: it is stepped where it lies.
 use line_set::step;
-use set_rules::LineSet;
-use set_rules::Reply;
+use set_state::LineSet;
+use set_state::Reply;
 ghost use lib.ListN.{length};
 ghost use Rattle.set_rules.specs.Feeds.{GivesIn, stepOf};
 

@@ -6,13 +6,13 @@ use mathlib.Core.List.{List}
 use mathlib.Core.Path.{_≡_, sym, ap, _∙_}
 use lib.ListN.{length}
 use borrow.Author.Tests.{eq-eqb, ne-eqb}
-use Rattle.set_rules.specs.State.{channelsOf}
+use Rattle.set_state.specs.State.{channelsOf}
 use Rattle.set_rules.specs.SetRules.{onTick, onHandover}
 use Rattle.set_rules.specs.Feeds.{Outcome, Gives, stepOf}
 use Rattle.set_rules.specs.RecordLaws.{AllEven}
 use Rattle.set_rules.proofs.Kept.{even-all, refused}
-use Rattle.set_rules.specs.declared.state.LineSet.{LineSet}
-use Rattle.set_rules.specs.declared.state.Answer.{Answer}
+use Rattle.set_state.specs.declared.state.LineSet.{LineSet}
+use Rattle.set_state.specs.declared.state.Answer.{Answer}
 use Rattle.planning.specs.Plans.{settled}
 
 abbrev pub answer : LineSet → ℕ → ℕ → Answer

@@ -11,7 +11,8 @@ use borrow.Author.Tests.{leb-true, eqb-true}
 use Rattle.laws.proofs.Tests.{both}
 use Rattle.laws.proofs.Each.{_▹_}
 use Rattle.laws.proofs.Table.{pick-each}
-use Rattle.set_rules.specs.Entries.{byte, measured, payload, sizes, sizeOk, payloadOk, readEntry}
+use Rattle.set_state.specs.Bytes.{byte}
+use Rattle.set_rules.specs.Entries.{measured, payload, sizes, sizeOk, payloadOk, readEntry}
 use Rattle.laws.proofs.Tests.{both}
 
 kind-is : (k : ℕ) (e : List ℕ) → payload k e .kind ≡ k

@@ -13,12 +13,12 @@ use Rattle.telegram.specs.Telegram.{readTelegram}
 use Rattle.telegram.specs.declared.message.Number.{Number}
 use Rattle.channel.specs.declared.state.Channel.{Channel}
 use Rattle.channel.specs.declared.state.Event.{Event}
-use Rattle.set_rules.specs.State.{noChannel, channelsOf, placeOf}
+use Rattle.set_state.specs.State.{noChannel, channelsOf, placeOf}
 use Rattle.set_rules.specs.Entries.{readEntry, telegramIn}
 use Rattle.set_rules.specs.Refusals.{firstOf}
-use Rattle.set_rules.specs.declared.state.Desk.{Desk}
-use Rattle.set_rules.specs.declared.state.Entry.{Entry}
-use Rattle.set_rules.specs.declared.state.LineSet.{LineSet}
+use Rattle.set_state.specs.declared.state.Desk.{Desk}
+use Rattle.set_state.specs.declared.state.Entry.{Entry}
+use Rattle.set_state.specs.declared.state.LineSet.{LineSet}
 use Rattle.requests.specs.Asking.{seen, early, unless, askedOf}
 use Rattle.requests.specs.declared.request.Asked.{Asked}
 use Rattle.requests.specs.declared.request.Asked.the-variants.{Refusal, OnChannel}

@@ -12,7 +12,7 @@ use lib.ListN.{length, take, drop, getD, drop-of-length-le, length-map}
 use lib.Seq.{drop-cons, length-take-le, take-all}
 use borrow.Author.Tests.{ltb-true, ltb-false}
 use Rattle.channel.specs.declared.state.Channel.{Channel}
-use Rattle.set_rules.specs.State.{placeOf}
+use Rattle.set_state.specs.State.{placeOf}
 
 -- how many of 32 are the first n
 count-is : {A : Type 0} (xs : List A) (n : ℕ) → length xs ≡ 32 → cond (ltb 32 n) 32 n ≡ length (take n xs)

@@ -28,13 +28,13 @@ use Rattle.channel.specs.declared.state.Send.{Send}
 use Rattle.records.specs.Emitting.{PutAt}
 use Rattle.records.specs.Promises.{Writing}
 use Rattle.records.proofs.Kept.{written-none, start, next, room, all-put, put-first}
-use Rattle.set_rules.specs.State.{noChannel, channelsOf, listenersOf, withChannels}
+use Rattle.set_state.specs.State.{noChannel, channelsOf, listenersOf, withChannels}
 use Rattle.set_rules.specs.Records.{delivered, recordsOf, spaceOf}
 use Rattle.set_rules.specs.SetRules.{movedIn, sentIn, ticked, tickSends, onTick}
 use Rattle.set_rules.specs.Feeds.{Gives, emit}
 use Rattle.set_rules.proofs.Kept.{space-length}
-use Rattle.set_rules.specs.declared.state.Desk.{Desk}
-use Rattle.set_rules.specs.declared.state.LineSet.{LineSet}
+use Rattle.set_state.specs.declared.state.Desk.{Desk}
+use Rattle.set_state.specs.declared.state.LineSet.{LineSet}
 use Rattle.set_rules.specs.RecordLaws.{done}
 use Rattle.line_set.proofs.Emission.{even-tick}
 use Rattle.line_set.proofs.Turns.{At, left, Summed, sum-first, sum-next, put-turn, put-end}

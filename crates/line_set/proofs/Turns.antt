@@ -17,9 +17,9 @@ use Rattle.channel.specs.declared.state.Send.{Send}
 use Rattle.records.specs.Promises.{Split}
 use Rattle.set_rules.specs.Records.{Delivery, delivered, toEach, recordsOf, spaceOf}
 use Rattle.set_rules.specs.SetRules.{sentIn, sendsOf, endSends}
-use Rattle.set_rules.specs.State.{noChannel, channelsOf}
-use Rattle.set_rules.specs.declared.state.Desk.{Desk}
-use Rattle.set_rules.specs.declared.state.LineSet.{LineSet}
+use Rattle.set_state.specs.State.{noChannel, channelsOf}
+use Rattle.set_state.specs.declared.state.Desk.{Desk}
+use Rattle.set_state.specs.declared.state.LineSet.{LineSet}
 use Rattle.line_set.proofs.Seeking.{counted}
 
 space-append : (vs ws : List Delivery) → spaceOf (vs ++ ws) ≡ spaceOf vs + spaceOf ws

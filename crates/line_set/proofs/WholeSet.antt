@@ -14,9 +14,9 @@ use Rattle.set_rules.specs.Entries.{planIn, readEntry}
 use Rattle.set_rules.specs.Refusals.{firstOf, refusalOf}
 use Rattle.set_rules.specs.SetRules.{accepted, onTick, onHandover}
 use Rattle.set_rules.specs.Feeds.{Gives, refuse, emit, outcomeOf, stepOf}
-use Rattle.set_rules.specs.declared.state.Entry.{Entry}
-use Rattle.set_rules.specs.declared.state.LineSet.{LineSet}
-use Rattle.set_rules.specs.declared.state.Answer.{Answer}
+use Rattle.set_state.specs.declared.state.Entry.{Entry}
+use Rattle.set_state.specs.declared.state.LineSet.{LineSet}
+use Rattle.set_state.specs.declared.state.Answer.{Answer}
 use Rattle.set_rules.proofs.Kept.{gives-as}
 use Rattle.planning.specs.Plans.{settled, PlanGives}
 use Rattle.line_set.proofs.Lengths.{long-enough, kind-read}

@@ -2,8 +2,8 @@
 use super::places;
 use channel::Channel;
 use channel::Event;
-use set_rules::Desk;
-use set_rules::LineSet;
+use set_state::Desk;
+use set_state::LineSet;
 ghost use mathlib.Core.Path.{_≡_};
 ghost use Prim.Native.Nat.{_+_, _≤_};
 ghost use lib.ListN.{length};

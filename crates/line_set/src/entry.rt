@@ -4,8 +4,8 @@ use super::places;
 use channel::Event;
 use channel::Falling;
 use requests::Asked;
-use set_rules::Answer;
-use set_rules::LineSet;
+use set_state::Answer;
+use set_state::LineSet;
 ghost use lib.ListN.{length};
 ghost use Rattle.set_rules.specs.Feeds.{Gives, stepOf};
 

@@ -10,7 +10,7 @@ use Rattle.channel.specs.declared.state.Call.the-variants.{Closed, Open}
 use Rattle.channel.specs.declared.state.Arrival.{Arrival}
 use Rattle.channel.specs.declared.state.Arrival.the-variants.{Absent, Present}
 use Rattle.channel.specs.declared.state.Channel.{Channel}
-use Rattle.set_rules.specs.declared.state.Desk.{Desk}
+use Rattle.set_state.specs.declared.state.Desk.{Desk}
 use Rattle.plain_set.specs.Plain.{partyIn, callIn, arrivalIn, channelIn, deskIn, setIn, flagOf, partyOf, callOf, arrivalOf, channelOf, deskOf, plainOf}
 use Rattle.plain_set.specs.Promises.{Returns}
 use Rattle.plain_set.proofs.Maps.{map-back}

@@ -12,8 +12,8 @@ use Rattle.channel.specs.declared.state.Call.the-variants.{Closed, Open}
 use Rattle.channel.specs.declared.state.Arrival.{Arrival}
 use Rattle.channel.specs.declared.state.Arrival.the-variants.{Absent, Present}
 use Rattle.channel.specs.declared.state.Channel.{Channel}
-use Rattle.set_rules.specs.declared.state.Desk.{Desk}
-use Rattle.set_rules.specs.declared.state.LineSet.{LineSet}
+use Rattle.set_state.specs.declared.state.Desk.{Desk}
+use Rattle.set_state.specs.declared.state.LineSet.{LineSet}
 use Rattle.plain_set.specs.declared.plain.PlainParty.{PlainParty}
 use Rattle.plain_set.specs.declared.plain.PlainCall.{PlainCall}
 use Rattle.plain_set.specs.declared.plain.PlainArrival.{PlainArrival}

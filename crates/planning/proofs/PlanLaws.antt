@@ -11,8 +11,8 @@ use Rattle.set_rules.specs.Plan.{planOk, setOf}
 use Rattle.set_rules.specs.Refusals.{firstOf, refusalOf}
 use Rattle.set_rules.specs.SetRules.{accepted, onPlan}
 use Rattle.set_rules.specs.Feeds.{refuse, emit, outcomeOf}
-use Rattle.set_rules.specs.declared.state.Entry.{Entry}
-use Rattle.set_rules.specs.declared.state.LineSet.{LineSet}
+use Rattle.set_state.specs.declared.state.Entry.{Entry}
+use Rattle.set_state.specs.declared.state.LineSet.{LineSet}
 
 module _ (s : LineSet) (e : List ℕ) (x : Entry) (room : ℕ) (z : x .refusal ≡ 0) (k : x .kind ≡ 7) (h : s .planned ≡ false) where
   pub plan-bad : planOk (planIn e) ≡ false → refuse 6 s ≡ outcomeOf s e x room

@@ -7,9 +7,9 @@ use lib.Dec.{eqb}
 use lib.ListN.{length}
 use Rattle.set_rules.specs.Entries.{planIn}
 use Rattle.set_rules.specs.Feeds.{Gives, outcomeOf}
-use Rattle.set_rules.specs.declared.state.Answer.{Answer}
-use Rattle.set_rules.specs.declared.state.Entry.{Entry}
-use Rattle.set_rules.specs.declared.state.LineSet.{LineSet}
+use Rattle.set_state.specs.declared.state.Answer.{Answer}
+use Rattle.set_state.specs.declared.state.Entry.{Entry}
+use Rattle.set_state.specs.declared.state.LineSet.{LineSet}
 
 -- an answer whose set takes the place of s unless it is a refusal
 abbrev pub settled : LineSet → Answer → Answer

@@ -1,6 +1,6 @@
 // A plan makes the set anew, and each desk is asked for the time.
 use bodies::Body;
-use set_rules::Answer;
+use set_state::Answer;
 ghost use Rattle.planning.specs.Plans.{PlanGives};
 
 // An entry that is a plan, by the bytes of the plan, where there is none yet. Where it is refused, the set given is not to be

@@ -11,10 +11,10 @@ use borrow.Author.Tests.{leb-true, eqb-true}
 use Rattle.laws.proofs.Lists.{part-to-end}
 use Rattle.laws.proofs.Tests.{both, cond-taken, cond-left, flag-taken, flag-left}
 use Rattle.fields.specs.Fields.{between}
-use Rattle.set_rules.specs.State.{noDesk, noChannel}
+use Rattle.set_state.specs.State.{noDesk, noChannel}
 use Rattle.set_rules.specs.Plan.{deskOk, desksOk, desksIn, channelsOk, channelsIn, deskCount, desksPart, channelCount, channelsPart, filled}
-use Rattle.set_rules.specs.declared.state.Desk.{Desk}
-use Rattle.set_rules.specs.declared.state.Size.{Size}
+use Rattle.set_state.specs.declared.state.Desk.{Desk}
+use Rattle.set_state.specs.declared.state.Size.{Size}
 use Rattle.plans.specs.Planned.{countsOk, countsIn, sizeOf, deskOf, deskIn, desksRead, noDesks, channelsRead, noChannels}
 use Rattle.plans.specs.declared.desks.DeskRead.the-variants.{Is, Bad}
 use Rattle.plans.specs.declared.desks.Desks.{Desks}

@@ -9,7 +9,7 @@ use lib.ListN.{length, take, drop, getD, drop-of-length-le}
 use lib.Seq.{drop-cons, getD-take, length-take-le}
 use lib.Dec.{eqb}
 use Rattle.set_rules.specs.Plan.{hasNumber, distinct}
-use Rattle.set_rules.specs.declared.state.Desk.{Desk}
+use Rattle.set_state.specs.declared.state.Desk.{Desk}
 
 module _ (ds : List Desk) (n : ℕ) (m : n ≤ length ds) where
   module _ (i : ℕ) (z : Desk) (h : i < n) where

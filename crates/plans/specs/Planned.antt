@@ -7,11 +7,11 @@ use lib.ListN.{length, take, drop, replicate}
 use Rattle.numerals.specs.Digits.{valueOf}
 use Rattle.fields.specs.Fields.{between}
 use Rattle.telegram.specs.Telegram.{num}
-use Rattle.set_rules.specs.State.{newLink, noDesk, noChannel, newSet}
-use Rattle.set_rules.specs.Entries.{word}
+use Rattle.set_state.specs.State.{newLink, noDesk, noChannel, newSet}
+use Rattle.set_state.specs.Bytes.{word}
 use Rattle.set_rules.specs.Plan.{deskOk, desksOk, desksIn, channelsOk, channelsIn, deskCount, channelCount, planOk, filled, setOf}
-use Rattle.set_rules.specs.declared.state.Desk.{Desk}
-use Rattle.set_rules.specs.declared.state.Size.{Size}
+use Rattle.set_state.specs.declared.state.Desk.{Desk}
+use Rattle.set_state.specs.declared.state.Size.{Size}
 use Rattle.plans.specs.declared.desks.DeskRead.{DeskRead}
 use Rattle.plans.specs.declared.desks.DeskRead.the-variants.{Is, Bad}
 use Rattle.plans.specs.declared.desks.Desks.{Desks}

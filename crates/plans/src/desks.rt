@@ -1,7 +1,7 @@
 // The desks of a plan.
 use numerals::Digits;
-use set_rules::Desk;
-use set_rules::Link;
+use set_state::Desk;
+use set_state::Link;
 use telegram::Number;
 ghost use mathlib.Core.Path.{_≡_};
 ghost use mathlib.Core.Bool.{not};
@@ -37,7 +37,7 @@ fn read_desk(s: &[u8]) -> DeskRead
     requires { ⌜ 10 ≤ length (now s) ⌝ }
     ensures { λ r. ⌜ r ≡ deskIn (now (s .entry)) ⌝ }
 {
-    let code = set_rules::word(s);
+    let code = set_state::word(s);
     if 1023 < code {
         return DeskRead::Bad;
     }

@@ -1,8 +1,8 @@
 // Plans: the counts and the size, then the desks, then the channels.
 use super::channels;
 use super::desks;
-use set_rules::LineSet;
-use set_rules::Size;
+use set_state::LineSet;
+use set_state::Size;
 ghost use mathlib.Core.Path.{_≡_};
 ghost use Rattle.plans.specs.Planned.{countsIn, noPlan, planOf};
 
@@ -22,10 +22,10 @@ enum Counts {
 fn read_counts(plan: &[u8]) -> Counts
     ensures { λ r. ⌜ r ≡ countsIn (now (plan .entry)) ⌝ }
 {
-    let desks = set_rules::byte(plan, 0);
-    let past = 10 * set_rules::wide(desks);
-    let channels = set_rules::byte(plan, 1 + past);
-    let size = 2 + past + 2 * set_rules::wide(channels);
+    let desks = set_state::byte(plan, 0);
+    let past = 10 * set_state::wide(desks);
+    let channels = set_state::byte(plan, 1 + past);
+    let size = 2 + past + 2 * set_state::wide(channels);
     if ((1 <= desks) & (desks <= 4)) & ((1 <= channels) & (channels <= 32)) & (plan.len() == size) {
         Counts::Are(Size { desks, channels })
     } else {
@@ -49,7 +49,7 @@ pub fn read_plan(plan: &[u8]) -> Plan
     let Counts::Are(size) = counts else {
         return no_plan();
     };
-    let n = set_rules::wide(size.desks);
+    let n = set_state::wide(size.desks);
     let d = desks::read_desks(&plan[1..], n);
     if !d.ok {
         return no_plan();
@@ -59,7 +59,7 @@ pub fn read_plan(plan: &[u8]) -> Plan
         return no_plan();
     }
     let at = 2 + 10 * n;
-    let c = channels::read_channels(&plan[at..], set_rules::wide(size.channels), size.desks);
+    let c = channels::read_channels(&plan[at..], set_state::wide(size.channels), size.desks);
     if !c.ok {
         return no_plan();
     }

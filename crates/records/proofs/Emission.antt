@@ -9,8 +9,8 @@ use borrow.Author.Tests.{le-leb}
 use Rattle.set_rules.specs.Records.{recordsOf, spaceOf}
 use Rattle.set_rules.specs.RecordLaws.{done}
 use Rattle.set_rules.specs.SetRules.{Effect}
-use Rattle.set_rules.specs.declared.state.Answer.{Answer}
-use Rattle.set_rules.specs.declared.state.LineSet.{LineSet}
+use Rattle.set_state.specs.declared.state.Answer.{Answer}
+use Rattle.set_state.specs.declared.state.LineSet.{LineSet}
 use Rattle.set_rules.proofs.Kept.{space-length}
 use Rattle.records.specs.Promises.{Emitted, PutFirst}
 use Rattle.records.proofs.Writing.{written-over}

@@ -3,8 +3,8 @@
 use Prim.Native.Nat.{ℕ}
 use mathlib.Core.List.{List}
 use Rattle.set_rules.specs.SetRules.{Effect}
-use Rattle.set_rules.specs.declared.state.Answer.{Answer}
-use Rattle.set_rules.specs.declared.state.LineSet.{LineSet}
+use Rattle.set_state.specs.declared.state.Answer.{Answer}
+use Rattle.set_state.specs.declared.state.LineSet.{LineSet}
 use Rattle.records.specs.Promises.{NoneWritten, ToNobody, Start, Next, Room, AllPut, Emitted, PutFirst}
 use Rattle.records.proofs.Writing as writing
 use Rattle.records.proofs.SendLaws as sends

@@ -15,9 +15,9 @@ use Rattle.telegram.specs.declared.message.Number.{Number}
 use Rattle.telegram.proofs.Kept.{length-telegram}
 use Rattle.telegram_forms.proofs.Kept.{length-padded, form-put}
 use Rattle.line_rules.specs.Notices.{Content, telegram, contact}
-use Rattle.set_rules.specs.State.{noDesk, ownOf}
+use Rattle.set_state.specs.State.{noDesk, ownOf}
 use Rattle.set_rules.specs.Records.{Delivery, recordFor, recordSize, toEach, recordsOf}
-use Rattle.set_rules.specs.declared.state.Desk.{Desk}
+use Rattle.set_state.specs.declared.state.Desk.{Desk}
 use Rattle.set_rules.specs.RecordLaws.{halves}
 use Rattle.set_rules.proofs.Kept.{halves-half, in-halves}
 use Rattle.bodies.specs.Bodies.{bodyFor, delivery, contentForm, formOf, numberedFor}

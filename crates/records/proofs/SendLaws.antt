@@ -8,7 +8,7 @@ use lib.ListN.{length, drop, getD, drop-of-length-le}
 use lib.Seq.{drop-cons}
 use Rattle.channel.specs.declared.state.Send.{Send}
 use Rattle.set_rules.specs.Records.{delivered, recordsOf}
-use Rattle.set_rules.specs.declared.state.Desk.{Desk}
+use Rattle.set_state.specs.declared.state.Desk.{Desk}
 use Rattle.set_rules.specs.RecordLaws.{halves}
 use Rattle.bodies.specs.Bodies.{deliveryOf}
 use Rattle.records.specs.Promises.{ToNobody, Split}

@@ -8,9 +8,9 @@ use lib.ListN.{length}
 use lib.Seq.{sets}
 use Rattle.telegram.specs.Telegram.{telegramOf}
 use Rattle.line_rules.specs.Notices.{Content, telegram, contact}
-use Rattle.set_rules.specs.State.{ownOf}
+use Rattle.set_state.specs.State.{ownOf}
 use Rattle.set_rules.specs.Records.{recordFor}
-use Rattle.set_rules.specs.declared.state.Desk.{Desk}
+use Rattle.set_state.specs.declared.state.Desk.{Desk}
 use Rattle.bodies.specs.Bodies.{bodyFor}
 use Rattle.bodies.specs.declared.body.Body.{Body}
 

@@ -9,9 +9,9 @@ use Rattle.set_rules.specs.Records.{Delivery, toEach, recordsOf, spaceOf}
 use Rattle.set_rules.specs.RecordLaws.{AllEven, done}
 use Rattle.set_rules.specs.SetRules.{Effect}
 use Rattle.set_rules.specs.Feeds.{Gives, emit}
-use Rattle.set_rules.specs.declared.state.Answer.{Answer}
-use Rattle.set_rules.specs.declared.state.Desk.{Desk}
-use Rattle.set_rules.specs.declared.state.LineSet.{LineSet}
+use Rattle.set_state.specs.declared.state.Answer.{Answer}
+use Rattle.set_state.specs.declared.state.Desk.{Desk}
+use Rattle.set_state.specs.declared.state.LineSet.{LineSet}
 use Rattle.records.specs.Emitting.{written, PutAt}
 
 -- No bytes change nothing (`written-none`), and a delivery to nobody has none (`nobody`).

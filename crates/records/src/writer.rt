@@ -3,13 +3,13 @@ use bodies::Body;
 use bodies::Own;
 use bodies::Shape;
 use channel::Send;
-use set_rules::Desk;
+use set_state::Desk;
 use telegram::Number;
 ghost use mathlib.Core.Path.{_≡_};
 ghost use mathlib.Core.List.{[], _∷_, _++_};
 ghost use Prim.Native.Nat.{_+_, _-_, _≤_};
 ghost use lib.ListN.{length};
-ghost use Rattle.set_rules.specs.State.{ownOf};
+ghost use Rattle.set_state.specs.State.{ownOf};
 ghost use Rattle.set_rules.specs.Records.{recordFor, recordsOf, delivered};
 ghost use Rattle.bodies.specs.Bodies.{bodyFor, delivery, deliveryOf, shapeOf, formOf, ownEnd, numberedFor};
 ghost use Rattle.records.specs.Emitting.{written, PutAt, headBytes, restBytes, toOne};
@@ -80,7 +80,7 @@ fn put_record(
             8
         }
         Shape::Telegram { own, size } => {
-            let desk = set_rules::desk_at(desks, d);
+            let desk = set_state::desk_at(desks, d);
             put_head(buffer, size, d, 1);
             put_telegram(&mut buffer[5..], desk, d, body, own, size, form);
             size

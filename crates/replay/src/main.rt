@@ -8,7 +8,7 @@ mod sizes;
 mod writing;
 
 use place::Place;
-use set_rules::LineSet;
+use set_state::LineSet;
 
 // One set for the whole run: it lies here, and is lent to each entry in turn.
 fn main() {

@@ -1,7 +1,7 @@
 // The text, and what waits in it to be written.
 use super::lines;
 use super::place::Place;
-use set_rules::Reply;
+use set_state::Reply;
 ghost use mathlib.Core.Path.{_≡_};
 ghost use Prim.Native.Nat.{_+_, _≤_};
 ghost use lib.ListN.{length};

@@ -14,8 +14,8 @@ use Rattle.telegram.specs.declared.message.Message.the-variants.{TimeNotice, Op
 use Rattle.telegram.specs.declared.message.Reading.{Reading}
 use Rattle.telegram.specs.declared.message.Reading.the-variants.{Telegram, Refused}
 use Rattle.set_rules.specs.Refusals.{deskSends, codeIs, identifierIs, bodyReads, askedBy, askedIn, phaseOf}
-use Rattle.set_rules.specs.declared.state.Request.{Request}
-use Rattle.set_rules.specs.declared.state.Request.the-variants.{OfLink as LinkIs, OnChannel as ChannelIs, Foreign}
+use Rattle.set_state.specs.declared.state.Request.{Request}
+use Rattle.set_state.specs.declared.state.Request.the-variants.{OfLink as LinkIs, OnChannel as ChannelIs, Foreign}
 use Rattle.requests.specs.Asking.{asking, telegramAsked, inPhase, unless}
 use Rattle.requests.specs.Promises.{ForeignRefused}
 use Rattle.requests.specs.declared.request.Asked.{Asked}

@@ -6,7 +6,7 @@ use mathlib.Core.Path.{_≡_}
 use lib.Dec.{eqb}
 use Rattle.telegram.specs.declared.message.Reading.{Reading}
 use Rattle.set_rules.specs.Refusals.{codeIs, identifierIs, bodyReads, askedIn, phaseOf}
-use Rattle.set_rules.specs.declared.state.Request.the-variants.{Foreign}
+use Rattle.set_state.specs.declared.state.Request.the-variants.{Foreign}
 
 -- What no desk sends has a refusal up to 11 (`foreign-refused`).
 abbrev pub ForeignRefused : Type 0

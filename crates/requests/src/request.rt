@@ -1,10 +1,10 @@
 // What an entry asks of the set about one desk's link or one channel. Only here is a whole message taken apart.
 use channel::Event;
 use numerals::Digits;
-use set_rules::Desk;
-use set_rules::Entry;
-use set_rules::LinkRequest;
-use set_rules::Request;
+use set_state::Desk;
+use set_state::Entry;
+use set_state::LinkRequest;
+use set_state::Request;
 use telegram::Message;
 use telegram::Number;
 use telegram::Reading;
@@ -216,7 +216,7 @@ pub fn asked_of(x: Entry, planned: bool, entry: &[u8], desks: [Desk; 4], n: u8) 
     if from_desk & (n <= x.desk) {
         return Asked::Refusal(7);
     }
-    let desk = set_rules::desk_at(desks, x.desk);
+    let desk = set_state::desk_at(desks, x.desk);
     if x.kind == 1 {
         let start = telegram_start(entry.len());
         let asked = read_request(x.desk, &entry[start..], desk.code);

@@ -20,7 +20,7 @@ use Rattle.channel.specs.declared.state.Event.{Event}
 use Rattle.channel.specs.declared.state.Notice.{Notice}
 use Rattle.channel.specs.declared.state.Notice.the-variants.{PressAnswer, Incoming, BaseArrival, Call, PressNotice, CallerNotice, CaptureReply, CaptureState}
 use Rattle.channel.specs.declared.state.Send.{Send}
-use Rattle.set_rules.specs.State.{newSet, noDesk, ownOf}
+use Rattle.set_state.specs.State.{newSet, noDesk, ownOf}
 use Rattle.set_rules.specs.Entries.{readEntry, telegramIn}
 use Rattle.laws.specs.Table.{pick}
 use Rattle.set_rules.specs.Refusals.{askedIn, refusalOf}
@@ -29,13 +29,13 @@ use Rattle.set_rules.specs.SetRules.{Effect, onChannel, sendsOf, onTick,
 use Rattle.set_rules.specs.Feeds.{Outcome, Item, Gives, outcomeOf, stepOf, stepBy, run, after}
 use Rattle.set_rules.specs.RecordLaws.{Even, AllEven, RecordIsLong, SpaceIsLength, EvenSends, EvenAll, halves, OneMoreHalf, LowestBit, GivesAlike, LeftAsWas, NoRoom}
 use Rattle.set_rules.specs.Promises.{Refused, Counted, Renewed}
-use Rattle.set_rules.specs.declared.state.Answer.{Answer}
-use Rattle.set_rules.specs.declared.state.Desk.{Desk}
-use Rattle.set_rules.specs.declared.state.LineSet.{LineSet}
-use Rattle.set_rules.specs.declared.state.Entry.{Entry}
-use Rattle.set_rules.specs.declared.state.LinkRequest.the-variants.{TellsTime, TellsState}
-use Rattle.set_rules.specs.declared.state.Request.{Request}
-use Rattle.set_rules.specs.declared.state.Request.the-variants.{OfLink, OnChannel, Foreign}
+use Rattle.set_state.specs.declared.state.Answer.{Answer}
+use Rattle.set_state.specs.declared.state.Desk.{Desk}
+use Rattle.set_state.specs.declared.state.LineSet.{LineSet}
+use Rattle.set_state.specs.declared.state.Entry.{Entry}
+use Rattle.set_state.specs.declared.state.LinkRequest.the-variants.{TellsTime, TellsState}
+use Rattle.set_state.specs.declared.state.Request.{Request}
+use Rattle.set_state.specs.declared.state.Request.the-variants.{OfLink, OnChannel, Foreign}
 use Rattle.laws.proofs.Table.{pick-each}
 
 -- ---- refused answers

@@ -28,21 +28,22 @@ use Rattle.channel.specs.declared.state.Notice.the-variants.{PressAnswer, Incom
 use Rattle.channel.specs.declared.state.Send.{Send}
 use Rattle.line_rules.specs.Veil.{veil, hide, hideNotice, hideSend, hideSends, hideStep}
 use Rattle.line_rules.proofs.Kept.{hide-twice, present-hide, happens-hide, number-hidden}
-use Rattle.set_rules.specs.State.{newSet, noChannel, ownOf, placeOf, placeIn, channelAt, listenersOf, withChannels}
+use Rattle.set_state.specs.State.{newSet, noChannel, ownOf, placeOf, placeIn, channelAt, listenersOf, withChannels}
 use Rattle.laws.specs.Table.{pick}
-use Rattle.set_rules.specs.Entries.{byte, measured, readEntry, sizeOk, asks, bad, mobileIn, telegramIn}
+use Rattle.set_state.specs.Bytes.{byte}
+use Rattle.set_rules.specs.Entries.{measured, readEntry, sizeOk, asks, bad, mobileIn, telegramIn}
 use Rattle.set_rules.specs.Refusals.{Lookup, lookup, Test, askedIn, namedBy, firstOf, refusalOf, isCaller, table}
 use Rattle.set_rules.specs.Records.{Delivery, delivered, recordSize, recordsOf, spaceOf}
 use Rattle.set_rules.specs.SetRules.{Effect, effect, timeTaken, answerTaken, onChannel, movedIn, sendsOf, ticked, tickSends, endSends, onTick, onHandover, onRequest, numberIn, ways, accepted}
 use Rattle.set_rules.specs.Feeds.{Item, outcomeOf, stepOf, stepBy, ofDesk, received, Seen, seenOf, views}
 use Rattle.set_rules.specs.Promises.{AlikeBut, Renumbered, OtherHolds, MayDiffer, same, talks, Related, ended, more, Isolated}
 use Rattle.laws.specs.Each.{Each}
-use Rattle.set_rules.specs.declared.state.Desk.{Desk}
-use Rattle.set_rules.specs.declared.state.LineSet.{LineSet}
-use Rattle.set_rules.specs.declared.state.Entry.{Entry}
-use Rattle.set_rules.specs.declared.state.LinkRequest.the-variants.{TellsTime, TellsState}
-use Rattle.set_rules.specs.declared.state.Request.{Request}
-use Rattle.set_rules.specs.declared.state.Request.the-variants.{OfLink, OnChannel, Foreign}
+use Rattle.set_state.specs.declared.state.Desk.{Desk}
+use Rattle.set_state.specs.declared.state.LineSet.{LineSet}
+use Rattle.set_state.specs.declared.state.Entry.{Entry}
+use Rattle.set_state.specs.declared.state.LinkRequest.the-variants.{TellsTime, TellsState}
+use Rattle.set_state.specs.declared.state.Request.{Request}
+use Rattle.set_state.specs.declared.state.Request.the-variants.{OfLink, OnChannel, Foreign}
 use Rattle.laws.proofs.Each.{_▹_}
 use Rattle.laws.proofs.Table.{pick-matched}
 use Rattle.set_rules.proofs.Received.{AllLike, space-like, received-like, like-append}

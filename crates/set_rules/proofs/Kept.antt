@@ -6,8 +6,8 @@ use Rattle.set_rules.specs.SetRules.{Effect}
 use Rattle.set_rules.specs.Feeds.{Outcome}
 use Rattle.set_rules.specs.Promises.{Refused}
 use Rattle.set_rules.specs.RecordLaws.{RecordIsLong, SpaceIsLength, EvenSends, EvenAll, OneMoreHalf, LowestBit, GivesAlike, LeftAsWas, NoRoom}
-use Rattle.set_rules.specs.declared.state.Answer.{Answer}
-use Rattle.set_rules.specs.declared.state.LineSet.{LineSet}
+use Rattle.set_state.specs.declared.state.Answer.{Answer}
+use Rattle.set_state.specs.declared.state.LineSet.{LineSet}
 use Rattle.set_rules.proofs.Answers as answers
 
 pub refused : Refused

@@ -8,7 +8,7 @@ use Rattle.telegram.specs.Telegram.{headerOk, readTelegram, telegramOf}
 use Rattle.telegram.specs.Promises.{spelled}
 use Rattle.channel.specs.State.{isIn}
 use Rattle.line_rules.specs.Rules.{capture, endTalk, endCall, happens}
-use Rattle.set_rules.specs.State.{placeOf, runningFrom}
+use Rattle.set_state.specs.State.{placeOf, runningFrom}
 use Rattle.laws.specs.Each.{Each}
 use Rattle.laws.specs.Table.{pick}
 use Rattle.set_rules.specs.Entries.{readEntry}

@@ -31,8 +31,9 @@ use Rattle.channel.specs.declared.state.Channel.{Channel}
 use Rattle.channel.specs.declared.state.Event.{Event}
 use Rattle.channel.specs.declared.state.Event.the-variants.{Capture, Release, Cut, PressOn, PressOff, MobileOff, Tick, EndTalk, EndCall}
 use Rattle.channel.specs.declared.state.Send.{Send}
-use Rattle.set_rules.specs.State.{newSet, noDesk, noChannel, ownOf, listenersOf, channelsOf, placeIn, channelAt, timeTold, answered, withLink}
-use Rattle.set_rules.specs.Entries.{byte, word, readEntry, measured, bad, payload, payloadOk, sizeOk, telegramIn, planIn}
+use Rattle.set_state.specs.State.{newSet, noDesk, noChannel, ownOf, listenersOf, channelsOf, placeIn, channelAt, timeTold, answered, withLink}
+use Rattle.set_state.specs.Bytes.{byte, word}
+use Rattle.set_rules.specs.Entries.{readEntry, measured, bad, payload, payloadOk, sizeOk, telegramIn, planIn}
 use Rattle.set_rules.specs.Plan.{deskOk, desksOk, desksIn, channelsOk, channelsIn, deskCount, desksPart, channelCount, channelsPart, distinct, planOk, setOf}
 use Rattle.set_rules.specs.Refusals.{askedBy, askedIn, refusalOf}
 use Rattle.set_rules.specs.Records.{delivered}
@@ -42,13 +43,13 @@ use Rattle.line_rules.specs.Invariant.{NumberOk, ChannelOk, Fits, SendOk, Sends
 use Rattle.line_rules.proofs.Kept.{free-is-ok, stays-ok, says-in-range}
 use Rattle.set_rules.specs.Invariant.{DeskOk, SetOk}
 use Rattle.set_rules.specs.Promises.{Reads, AllRead, Readable, AlwaysOk}
-use Rattle.set_rules.specs.declared.state.Link.{Link}
-use Rattle.set_rules.specs.declared.state.Desk.{Desk}
-use Rattle.set_rules.specs.declared.state.LineSet.{LineSet}
-use Rattle.set_rules.specs.declared.state.Entry.{Entry}
-use Rattle.set_rules.specs.declared.state.LinkRequest.the-variants.{TellsTime, TellsState}
-use Rattle.set_rules.specs.declared.state.Request.{Request}
-use Rattle.set_rules.specs.declared.state.Request.the-variants.{OfLink, OnChannel, Foreign}
+use Rattle.set_state.specs.declared.state.Link.{Link}
+use Rattle.set_state.specs.declared.state.Desk.{Desk}
+use Rattle.set_state.specs.declared.state.LineSet.{LineSet}
+use Rattle.set_state.specs.declared.state.Entry.{Entry}
+use Rattle.set_state.specs.declared.state.LinkRequest.the-variants.{TellsTime, TellsState}
+use Rattle.set_state.specs.declared.state.Request.{Request}
+use Rattle.set_state.specs.declared.state.Request.the-variants.{OfLink, OnChannel, Foreign}
 use Rattle.laws.proofs.Table.{pick-each}
 use Rattle.set_rules.proofs.Answers.{refused, accepted-after}
 use Rattle.set_rules.proofs.Rows.{no-row}

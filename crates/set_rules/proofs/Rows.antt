@@ -13,8 +13,8 @@ use Rattle.telegram.specs.declared.message.Reading.{Reading}
 use Rattle.set_rules.specs.Entries.{telegramIn}
 use Rattle.set_rules.specs.Refusals.{Lookup, lookup, Test, askedIn, namedBy, row4, row6, row12, row14, row15, firstOf, refusalOf, table}
 use Rattle.laws.specs.Each.{Each}
-use Rattle.set_rules.specs.declared.state.LineSet.{LineSet}
-use Rattle.set_rules.specs.declared.state.Entry.{Entry}
+use Rattle.set_state.specs.declared.state.LineSet.{LineSet}
+use Rattle.set_state.specs.declared.state.Entry.{Entry}
 
 -- a row's number is none of an accepted entry
 abbrev Refuses : ℕ × Test → Type 0

@@ -16,7 +16,7 @@ use Rattle.channel.specs.declared.state.Call.{Call}
 use Rattle.channel.specs.declared.state.Arrival.the-variants.{Absent}
 use Rattle.channel.specs.declared.state.Channel.{Channel}
 use Rattle.channel.specs.declared.state.Send.{Send}
-use Rattle.set_rules.specs.State.{placeOf, hasChannel, channelAt, listenersOf}
+use Rattle.set_state.specs.State.{placeOf, hasChannel, channelAt, listenersOf}
 use Rattle.set_rules.specs.Entries.{readEntry}
 use Rattle.laws.specs.Each.{Each}
 use Rattle.laws.specs.Table.{pick}
@@ -27,9 +27,9 @@ use Rattle.set_rules.specs.Feeds.{Outcome, outcomeOf, stepOf, stepBy, ru
 use Rattle.set_rules.specs.Promises.{entryOf, ticks, Accepted, Ticked}
 use Rattle.set_rules.proofs.Answers.{accepted-after}
 use Rattle.set_rules.proofs.Rows.{no-row}
-use Rattle.set_rules.specs.declared.state.Desk.{Desk}
-use Rattle.set_rules.specs.declared.state.LineSet.{LineSet}
-use Rattle.set_rules.specs.declared.state.Entry.{Entry}
+use Rattle.set_state.specs.declared.state.Desk.{Desk}
+use Rattle.set_state.specs.declared.state.LineSet.{LineSet}
+use Rattle.set_state.specs.declared.state.Entry.{Entry}
 
 -- ---- an accepted tick
 

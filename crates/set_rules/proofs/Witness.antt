@@ -12,7 +12,7 @@ use Rattle.telegram.specs.Telegram.{headerOk, readTelegram, telegramOf}
 use Rattle.telegram.specs.Promises.{spelled}
 use Rattle.channel.specs.State.{isIn}
 use Rattle.line_rules.specs.Rules.{capture, mobileOn, happens}
-use Rattle.set_rules.specs.State.{placeOf, runningFrom}
+use Rattle.set_state.specs.State.{placeOf, runningFrom}
 use Rattle.laws.specs.Table.{pick}
 use Rattle.set_rules.specs.Entries.{readEntry}
 use Rattle.set_rules.specs.Plan.{desksOk, desksIn, hasNumber, distinct, channelsOk, channelsIn, planOk, setOf}

@@ -1,22 +1,15 @@
 -- 01, Entries and records: what an entry's bytes ask for, or refusal 1, 2 or 3.
-use Prim.Native.Nat.{ℕ, _+_, _*_}
+use Prim.Native.Nat.{ℕ, _+_}
 use mathlib.Core.List.{List, [], _∷_}
 use mathlib.Core.Bool.{Bool, true, false, _&&_, cond}
 use lib.Dec.{eqb, leb}
-use lib.ListN.{length, take, drop, getD}
+use lib.ListN.{length, take, drop}
 use Rattle.numerals.specs.Digits.{digitsIn}
 use Rattle.numerals.specs.declared.digits.Digits.{Digits}
 use Rattle.numerals.specs.declared.digits.Digits.the-variants.{Malformed}
 use Rattle.laws.specs.Table.{pick}
-use Rattle.set_rules.specs.declared.state.Entry.{Entry}
-
--- the byte at a place
-abbrev pub byte : List ℕ → ℕ → ℕ
-byte e i = getD e i 0
-
--- "2 bytes, big-endian"
-abbrev pub word : List ℕ → ℕ → ℕ
-word e i = byte e i * 256 + byte e (i + 1)
+use Rattle.set_state.specs.Bytes.{byte, word}
+use Rattle.set_state.specs.declared.state.Entry.{Entry}
 
 -- 1: "fewer than 4 bytes, length wrong, or above 12,000"; the length "counts all bytes after it"
 abbrev pub measured : List ℕ → Bool

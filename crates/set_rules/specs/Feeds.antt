@@ -6,14 +6,15 @@ use mathlib.Core.Path.{_≡_}
 use lib.Dec.{eqb, leb}
 use Rattle.telegram.specs.Telegram.{over}
 use lib.ListN.{length, take, drop, getD}
-use Rattle.set_rules.specs.Entries.{readEntry, word}
+use Rattle.set_state.specs.Bytes.{word}
+use Rattle.set_rules.specs.Entries.{readEntry}
 use Rattle.set_rules.specs.Refusals.{refusalOf}
 use Rattle.set_rules.specs.Records.{recordsOf, spaceOf}
 use Rattle.set_rules.specs.SetRules.{Effect, accepted}
-use Rattle.set_rules.specs.declared.state.Entry.{Entry}
-use Rattle.set_rules.specs.declared.state.LineSet.{LineSet}
-use Rattle.set_rules.specs.declared.state.Answer.{Answer}
-use Rattle.set_rules.specs.declared.state.Reply.{Reply}
+use Rattle.set_state.specs.declared.state.Entry.{Entry}
+use Rattle.set_state.specs.declared.state.LineSet.{LineSet}
+use Rattle.set_state.specs.declared.state.Answer.{Answer}
+use Rattle.set_state.specs.declared.state.Reply.{Reply}
 
 -- "The answer is the refusal number (0 if accepted), the byte count written, and the set after"; and the bytes written
 pub record Outcome : Type 0 where

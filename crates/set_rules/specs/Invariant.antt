@@ -2,8 +2,8 @@
 use Prim.Native.Nat.{_≤_}
 use Rattle.laws.specs.Each.{Each}
 use Rattle.line_rules.specs.Invariant.{NumberOk, ChannelOk}
-use Rattle.set_rules.specs.declared.state.Desk.{Desk}
-use Rattle.set_rules.specs.declared.state.LineSet.{LineSet}
+use Rattle.set_state.specs.declared.state.Desk.{Desk}
+use Rattle.set_state.specs.declared.state.LineSet.{LineSet}
 
 pub record DeskOk (k : Desk) : Type 0 where
   pub code-ok : k .code ≤ 1023

@@ -15,15 +15,16 @@ use Rattle.channel.specs.declared.state.Arrival.the-variants.{Absent}
 use Rattle.channel.specs.declared.state.Channel.{Channel}
 use Rattle.channel.specs.declared.state.Party.{Party}
 use Rattle.channel.specs.declared.state.Party.the-variants.{Nobody, By}
-use Rattle.set_rules.specs.State.{newSet, noDesk, channelAt, listenersOf}
-use Rattle.set_rules.specs.Entries.{byte, mobileIn, readEntry}
+use Rattle.set_state.specs.State.{newSet, noDesk, channelAt, listenersOf}
+use Rattle.set_state.specs.Bytes.{byte}
+use Rattle.set_rules.specs.Entries.{mobileIn, readEntry}
 use Rattle.set_rules.specs.Refusals.{isCaller}
 use Rattle.set_rules.specs.Records.{measuredBytes, Delivery, delivered, recordsOf}
 use Rattle.set_rules.specs.SetRules.{accepted}
 use Rattle.set_rules.specs.Invariant.{SetOk}
 use Rattle.set_rules.specs.Feeds.{Outcome, Item, stepOf, stepBy, run, after, Seen, views}
-use Rattle.set_rules.specs.declared.state.Desk.{Desk}
-use Rattle.set_rules.specs.declared.state.LineSet.{LineSet}
+use Rattle.set_state.specs.declared.state.Desk.{Desk}
+use Rattle.set_state.specs.declared.state.LineSet.{LineSet}
 
 -- 1. An answer with a refusal number other than 0 has count 0, the same set, and no byte written (`Answers.refused`).
 abbrev pub Refused : Type 0

@@ -13,9 +13,9 @@ use Rattle.line_rules.specs.Notices.{Content}
 use Rattle.set_rules.specs.Records.{Delivery, delivered, recordFor, recordSize, recordsOf, spaceOf}
 use Rattle.set_rules.specs.SetRules.{Effect, sendsOf}
 use Rattle.set_rules.specs.Feeds.{Outcome, Gives, refuse, emit}
-use Rattle.set_rules.specs.declared.state.Answer.{Answer}
-use Rattle.set_rules.specs.declared.state.Desk.{Desk}
-use Rattle.set_rules.specs.declared.state.LineSet.{LineSet}
+use Rattle.set_state.specs.declared.state.Answer.{Answer}
+use Rattle.set_state.specs.declared.state.Desk.{Desk}
+use Rattle.set_state.specs.declared.state.LineSet.{LineSet}
 
 -- ---- how long records are
 

@@ -14,18 +14,18 @@ use Rattle.telegram.specs.declared.message.Reading.{Reading}
 use Rattle.telegram.specs.declared.message.Reading.the-variants.{Telegram as Read, Refused}
 use Rattle.channel.specs.State.{isIn, heldBy, isPresent}
 use Rattle.line_rules.specs.Rules.{isPressed}
-use Rattle.set_rules.specs.State.{noDesk, hasChannel, channelAt}
+use Rattle.set_state.specs.State.{noDesk, hasChannel, channelAt}
 use Rattle.set_rules.specs.Entries.{telegramIn, planIn}
 use Rattle.set_rules.specs.Plan.{planOk}
 use Rattle.channel.specs.declared.state.Channel.{Channel}
 use Rattle.channel.specs.declared.state.Event.the-variants.{Capture, Release}
-use Rattle.set_rules.specs.declared.state.Desk.{Desk}
-use Rattle.set_rules.specs.declared.state.LineSet.{LineSet}
-use Rattle.set_rules.specs.declared.state.Entry.{Entry}
-use Rattle.set_rules.specs.declared.state.LinkRequest.{LinkRequest}
-use Rattle.set_rules.specs.declared.state.LinkRequest.the-variants.{TellsTime, TellsState}
-use Rattle.set_rules.specs.declared.state.Request.{Request}
-use Rattle.set_rules.specs.declared.state.Request.the-variants.{OfLink, OnChannel, Foreign}
+use Rattle.set_state.specs.declared.state.Desk.{Desk}
+use Rattle.set_state.specs.declared.state.LineSet.{LineSet}
+use Rattle.set_state.specs.declared.state.Entry.{Entry}
+use Rattle.set_state.specs.declared.state.LinkRequest.{LinkRequest}
+use Rattle.set_state.specs.declared.state.LinkRequest.the-variants.{TellsTime, TellsState}
+use Rattle.set_state.specs.declared.state.Request.{Request}
+use Rattle.set_state.specs.declared.state.Request.the-variants.{OfLink, OnChannel, Foreign}
 
 -- What the rows go by beside the entry: whether there is a plan, its desks, and the channel that the entry names, if the plan has
 -- it.

@@ -17,19 +17,19 @@ use Rattle.channel.specs.declared.state.Channel.{Channel}
 use Rattle.channel.specs.declared.state.Event.{Event}
 use Rattle.channel.specs.declared.state.Event.the-variants.{Cut, PressOn, PressOff, MobileOn, MobileOff, Tick, EndTalk, EndCall}
 use Rattle.channel.specs.declared.state.Send.{Send}
-use Rattle.set_rules.specs.State.{newSet, ownOf, channelsOf, placeIn, channelAt, listenersOf, withChannels, timeTold, answered, withLink}
+use Rattle.set_state.specs.State.{newSet, ownOf, channelsOf, placeIn, channelAt, listenersOf, withChannels, timeTold, answered, withLink}
 use Rattle.set_rules.specs.Entries.{telegramIn, planIn}
 use Rattle.laws.specs.Table.{pick}
 use Rattle.set_rules.specs.Plan.{setOf}
 use Rattle.set_rules.specs.Refusals.{askedIn}
 use Rattle.set_rules.specs.Records.{Delivery, delivered}
-use Rattle.set_rules.specs.declared.state.Desk.{Desk}
-use Rattle.set_rules.specs.declared.state.LineSet.{LineSet}
-use Rattle.set_rules.specs.declared.state.Entry.{Entry}
-use Rattle.set_rules.specs.declared.state.LinkRequest.{LinkRequest}
-use Rattle.set_rules.specs.declared.state.LinkRequest.the-variants.{TellsTime, TellsState}
-use Rattle.set_rules.specs.declared.state.Request.{Request}
-use Rattle.set_rules.specs.declared.state.Request.the-variants.{OfLink, OnChannel, Foreign}
+use Rattle.set_state.specs.declared.state.Desk.{Desk}
+use Rattle.set_state.specs.declared.state.LineSet.{LineSet}
+use Rattle.set_state.specs.declared.state.Entry.{Entry}
+use Rattle.set_state.specs.declared.state.LinkRequest.{LinkRequest}
+use Rattle.set_state.specs.declared.state.LinkRequest.the-variants.{TellsTime, TellsState}
+use Rattle.set_state.specs.declared.state.Request.{Request}
+use Rattle.set_state.specs.declared.state.Request.the-variants.{OfLink, OnChannel, Foreign}
 
 -- the set after, what is sent, and the desks whose codes the records bear
 pub record Effect : Type 0 where

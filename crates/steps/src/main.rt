@@ -5,7 +5,7 @@
 mod argument;
 mod sizes;
 
-use set_rules::LineSet;
+use set_state::LineSet;
 ghost use Prim.Native.Nat.{_≤_};
 ghost use lib.ListN.{length};
 

@@ -48,10 +48,10 @@ use denote.Triple.Clauses.{ensured, lasts, atExit}
 use denote.Triple.Table.{entered, cited}
 use denote.Triple.Walked.{walkOf, Walks, ends-at, walked, walk-meets}
 use Rattle.replay.proofs.Lent.{bytes-at, part-of, part-at, zeros, array-in, array-out, with-fact, lends-mut, mut-back, lends-all, all-back, lends-part, part-back, big-lit, goes-on, stops}
-use Rattle.set_rules.proofs.state.LineSet as T
-use Rattle.set_rules.proofs.state.LineSet.Laws as T′
-use Rattle.set_rules.proofs.state.Reply as TR
-use Rattle.set_rules.proofs.state.Reply.Laws as TR′
+use Rattle.set_state.proofs.state.LineSet as T
+use Rattle.set_state.proofs.state.LineSet.Laws as T′
+use Rattle.set_state.proofs.state.Reply as TR
+use Rattle.set_state.proofs.state.Reply.Laws as TR′
 use Rattle.replay.proofs.place.Place as TP
 use Rattle.replay.proofs.place.Place.Laws as TP′
 use Rattle.replay.proofs.reading.next_entry as nxt
@@ -70,10 +70,10 @@ use Rattle.replay.proofs.writing.write_out as wrt
 use Rattle.replay.proofs.writing.write_out.Symbol as wrt-def
 use Rattle.replay.proofs.writing.write_out.Symbol.{name as #write-out}
 use Rattle.replay.proofs.writing.write_out.Met as wrt-thm
-use Rattle.set_rules.proofs.state.LineSet.new as new
-use Rattle.set_rules.proofs.state.LineSet.new.Symbol as new-def
-use Rattle.set_rules.proofs.state.LineSet.new.Symbol.{name as #new-set}
-use Rattle.set_rules.proofs.state.LineSet.new.Met as new-thm
+use Rattle.set_state.proofs.state.LineSet.new as new
+use Rattle.set_state.proofs.state.LineSet.new.Symbol as new-def
+use Rattle.set_state.proofs.state.LineSet.new.Symbol.{name as #new-set}
+use Rattle.set_state.proofs.state.LineSet.new.Met as new-thm
 use Rattle.replay.proofs.place.Place.new as fst
 use Rattle.replay.proofs.place.Place.new.Symbol as fst-def
 use Rattle.replay.proofs.place.Place.new.Symbol.{name as #new-place}
@@ -572,5 +572,5 @@ main-spec 𝓤 H 𝓜 𝓖 𝓡 =
     (cited 𝓤 H (Step 𝓤 H (𝓖 .A) (𝓜 .mem) (𝓡 .run)) 𝓜 𝓡 code.env #step-in stp-def.routine code.calls-lent-set·step-in (stp-thm.met 𝓤 H 𝓜 𝓖 𝓡))
     (cited 𝓤 H (Show 𝓤 H (𝓖 .A) (𝓜 .mem) (𝓡 .run)) 𝓜 𝓡 code.env #show shw-def.routine code.calls-replay·writing·show (shw-thm.met 𝓤 H 𝓜 𝓖 𝓡))
     (cited 𝓤 H (Write 𝓤 H (𝓖 .A) (𝓜 .mem) (𝓡 .run)) 𝓜 𝓡 code.env #write-out wrt-def.routine code.calls-replay·writing·write-out (wrt-thm.met 𝓤 H 𝓜 𝓖 𝓡))
-    (cited 𝓤 H (New 𝓤 H (𝓖 .A) (𝓜 .mem) (𝓡 .run)) 𝓜 𝓡 code.env #new-set new-def.routine code.calls-set-rules·state·LineSet·new (new-thm.met 𝓤 H 𝓜 𝓖 𝓡))
+    (cited 𝓤 H (New 𝓤 H (𝓖 .A) (𝓜 .mem) (𝓡 .run)) 𝓜 𝓡 code.env #new-set new-def.routine code.calls-set-state·state·LineSet·new (new-thm.met 𝓤 H 𝓜 𝓖 𝓡))
     (cited 𝓤 H (First 𝓤 H (𝓖 .A) (𝓜 .mem) (𝓡 .run)) 𝓜 𝓡 code.env #new-place fst-def.routine code.calls-replay·place·Place·new (fst-thm.met 𝓤 H 𝓜 𝓖 𝓡)))

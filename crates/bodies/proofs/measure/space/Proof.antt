@@ -8,7 +8,7 @@ use native.Mathlib.Nat.{zero-add}
 use native.Mathlib.Omega.{arith}
 use lib.ListN.{length, drop}
 use Rattle.set_rules.specs.Records.{delivered, spaceOf}
-use Rattle.set_rules.specs.declared.state.Desk.{Desk}
+use Rattle.set_state.specs.declared.state.Desk.{Desk}
 use Rattle.bodies.proofs.SpaceLaws.{space-next, space-end}
 use borrow.Author.Needs.{needs}
 use Rattle.bodies.proofs.measure.space.Statement.{statement}

@@ -4,7 +4,7 @@ use mathlib.Core.Path.{_∙_, sym, ap}
 use native.Mathlib.Nat.{add-zero}
 use native.Mathlib.Omega.{arith}
 use Rattle.telegram.specs.Telegram.{num}
-use Rattle.set_rules.specs.State.{ownOf}
+use Rattle.set_state.specs.State.{ownOf}
 use Rattle.set_rules.specs.Records.{spaceOf}
 use Rattle.bodies.specs.Bodies.{sizeIn}
 use Rattle.bodies.proofs.BodyLaws.{body-size}

@@ -4,7 +4,7 @@ use mathlib.Core.Path.{sym, ap, _∙_}
 use denote.Ref.{now}
 use lib.ListN.{length}
 use Rattle.judging.specs.Judging.{refusalBy}
-use Rattle.set_rules.specs.declared.state.Desk.{Desk}
+use Rattle.set_state.specs.declared.state.Desk.{Desk}
 use Rattle.changes.specs.Changes.{setWith}
 use Rattle.set_rules.proofs.Kept.{gives-as}
 use Rattle.changes.proofs.Changing.{refused}

@@ -8,7 +8,7 @@ use denote.Ref.{now}
 use lib.ListN.{length, set}
 use Rattle.channel.specs.declared.state.Channel.{Channel}
 use Rattle.records.specs.Emitting.{written}
-use Rattle.set_rules.specs.State.{withChannels}
+use Rattle.set_state.specs.State.{withChannels}
 use Rattle.set_rules.specs.Records.{delivered, spaceOf}
 use Rattle.set_rules.specs.SetRules.{Effect}
 use Rattle.set_rules.specs.Feeds.{emit}

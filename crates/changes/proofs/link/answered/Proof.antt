@@ -5,11 +5,11 @@ use mathlib.Core.Path.{sym, ap, _∙_}
 use native.Mathlib.Omega.{arith}
 use denote.Ref.{now}
 use Rattle.records.proofs.Kept.{written-none}
-use Rattle.set_rules.specs.State.{answered, linkedAt, withDesks}
+use Rattle.set_state.specs.State.{answered, linkedAt, withDesks}
 use Rattle.set_rules.specs.Records.{recordsOf, spaceOf}
 use Rattle.set_rules.specs.SetRules.{answerTaken}
-use Rattle.set_rules.specs.declared.state.Desk.{Desk}
-use Rattle.set_rules.specs.declared.state.Link.{Link}
+use Rattle.set_state.specs.declared.state.Desk.{Desk}
+use Rattle.set_state.specs.declared.state.Link.{Link}
 use Rattle.changes.specs.Changes.{setWith}
 use Rattle.set_rules.specs.RecordLaws.{done}
 use Rattle.records.proofs.Kept.{emitted}

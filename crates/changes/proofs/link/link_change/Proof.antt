@@ -5,7 +5,7 @@ use denote.Ref.{now}
 use lib.ListN.{length}
 use Rattle.set_rules.specs.SetRules.{onLink}
 use Rattle.set_rules.specs.Feeds.{emit}
-use Rattle.set_rules.specs.declared.state.LinkRequest.{LinkRequest}
+use Rattle.set_state.specs.declared.state.LinkRequest.{LinkRequest}
 use Rattle.changes.specs.Changes.{setWith}
 use Rattle.set_rules.proofs.Kept.{gives-as}
 use borrow.Author.Needs.{needs}

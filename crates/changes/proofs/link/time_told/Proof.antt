@@ -8,12 +8,12 @@ use denote.Ref.{now}
 use Rattle.bodies.specs.Bodies.{delivery}
 use Rattle.records.specs.Emitting.{written}
 use Rattle.bodies.specs.declared.body.Body.the-variants.{OperationRequest}
-use Rattle.set_rules.specs.State.{timeTold, linkedAt, withDesks}
+use Rattle.set_state.specs.State.{timeTold, linkedAt, withDesks}
 use Rattle.set_rules.specs.Records.{recordsOf, spaceOf}
 use Rattle.set_rules.specs.SetRules.{timeTaken}
 use Rattle.set_rules.proofs.Kept.{space-length}
-use Rattle.set_rules.specs.declared.state.Desk.{Desk}
-use Rattle.set_rules.specs.declared.state.Link.{Link}
+use Rattle.set_state.specs.declared.state.Desk.{Desk}
+use Rattle.set_state.specs.declared.state.Link.{Link}
 use Rattle.changes.specs.Changes.{setWith}
 use Rattle.set_rules.specs.RecordLaws.{done}
 use Rattle.set_rules.proofs.Kept.{no-room}

@@ -5,9 +5,9 @@ use native.Mathlib.Omega.{arith}
 use lib.ListN.{length, set}
 use lib.Seq.{set-out}
 use Rattle.laws.proofs.Lists.{any-default}
-use Rattle.set_rules.specs.State.{noDesk, linked}
-use Rattle.set_rules.specs.declared.state.Desk.{Desk}
-use Rattle.set_rules.specs.declared.state.Link.{Link}
+use Rattle.set_state.specs.State.{noDesk, linked}
+use Rattle.set_state.specs.declared.state.Desk.{Desk}
+use Rattle.set_state.specs.declared.state.Link.{Link}
 use borrow.Author.Needs.{needs}
 use Rattle.changes.proofs.lookup.linked.Statement.{statement}
 use Rattle.changes.proofs.lookup.linked.Tie as tie

@@ -3,8 +3,8 @@
 use mathlib.Core.List.{List}
 use mathlib.Core.Path.{_≡_, sym, ap, _∙_}
 use lib.ListN.{length, take, getD}
-use Rattle.set_rules.specs.State.{runningFrom}
-use Rattle.set_rules.specs.declared.state.Desk.{Desk}
+use Rattle.set_state.specs.State.{runningFrom}
+use Rattle.set_state.specs.declared.state.Desk.{Desk}
 use Rattle.changes.proofs.Places.{shares, four}
 use borrow.Author.Needs.{needs}
 use Rattle.changes.proofs.lookup.listeners.Statement.{statement}

@@ -36,7 +36,7 @@ use denote.Triple.Spec.{Meets, tripleOf}
 use denote.Triple.Clauses.{ensured, lasts}
 use denote.Triple.Table.{entered, cited}
 use denote.Triple.Walked.{says, Stays, stay-ref, walkOf, AllGo, goes-ref, Walks, ends-at, walked, walk-meets}
-use Rattle.set_rules.specs.State.{newSet}
+use Rattle.set_state.specs.State.{newSet}
 use Rattle.plain_set.specs.Plain.{plainOf}
 use Rattle.controller.specs.Memory.{layoutNow}
 use Rattle.plain_set.specs.declared.plain.PlainSet.{PlainSet}

@@ -8,8 +8,8 @@ use borrow.Author.Tests.{eq-eqb, ne-eqb}
 use denote.Ref.{now}
 use Rattle.telegram.specs.Telegram.{over}
 use Rattle.set_rules.specs.Feeds.{answerOf, stepOf}
-use Rattle.set_rules.specs.declared.state.LineSet.{LineSet}
-use Rattle.set_rules.specs.declared.state.Answer.{Answer}
+use Rattle.set_state.specs.declared.state.LineSet.{LineSet}
+use Rattle.set_state.specs.declared.state.Answer.{Answer}
 use Rattle.plain_set.specs.Plain.{plainOf}
 use Rattle.plain_set.specs.declared.plain.PlainSet.{PlainSet}
 use Rattle.controller.specs.declared.exports.Kept.{Kept}

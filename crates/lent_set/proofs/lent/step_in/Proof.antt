@@ -40,15 +40,15 @@ use denote.Triple.Walked.{says, Stays, stay-ref, stay-none-slice, gave-slice, wa
 use denote.Exit.{yes}
 use lib.ListN.{length}
 use Rattle.set_rules.specs.Feeds.{Gives, stepOf}
-use Rattle.set_rules.specs.declared.state.LineSet.{LineSet}
-use Rattle.set_rules.specs.declared.state.Answer.{Answer}
-use Rattle.set_rules.specs.declared.state.Reply.{Reply}
-use Rattle.set_rules.proofs.state.LineSet as T
-use Rattle.set_rules.proofs.state.LineSet.Laws as T′
-use Rattle.set_rules.proofs.state.Answer as TA
-use Rattle.set_rules.proofs.state.Answer.Laws as TA′
-use Rattle.set_rules.proofs.state.Reply as TR
-use Rattle.set_rules.proofs.state.Reply.Laws as TR′
+use Rattle.set_state.specs.declared.state.LineSet.{LineSet}
+use Rattle.set_state.specs.declared.state.Answer.{Answer}
+use Rattle.set_state.specs.declared.state.Reply.{Reply}
+use Rattle.set_state.proofs.state.LineSet as T
+use Rattle.set_state.proofs.state.LineSet.Laws as T′
+use Rattle.set_state.proofs.state.Answer as TA
+use Rattle.set_state.proofs.state.Answer.Laws as TA′
+use Rattle.set_state.proofs.state.Reply as TR
+use Rattle.set_state.proofs.state.Reply.Laws as TR′
 use Rattle.line_set.proofs.step as step
 use Rattle.line_set.proofs.step.Symbol as step-def
 use Rattle.line_set.proofs.step.Symbol.{name as #line-set·step}

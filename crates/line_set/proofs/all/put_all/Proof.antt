@@ -2,7 +2,7 @@
 -- Assumes nothing.
 use Prim.Native.Nat.{_-_, _≤_}
 use native.Mathlib.Omega.{arith}
-use Rattle.set_rules.specs.State.{channelsOf}
+use Rattle.set_state.specs.State.{channelsOf}
 use Rattle.records.specs.Promises.{Writing}
 use Rattle.records.proofs.Kept.{start, next, room, all-put}
 use Rattle.set_rules.specs.Records.{recordsOf}

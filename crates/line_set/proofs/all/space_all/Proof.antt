@@ -2,7 +2,7 @@
 -- Assumes nothing.
 use Prim.Native.Nat.{_-_, _≤_}
 use native.Mathlib.Omega.{arith}
-use Rattle.set_rules.specs.State.{channelsOf}
+use Rattle.set_state.specs.State.{channelsOf}
 use Rattle.set_rules.specs.SetRules.{endSends, onHandover}
 use borrow.Author.Needs.{needs}
 use Rattle.line_set.proofs.Seeking.{counted}

@@ -13,11 +13,11 @@ use borrow.Author.Tests.{eq-eqb, ne-eqb}
 use Rattle.laws.proofs.Lists.{part-to-end, any-default}
 use Rattle.line_rules.specs.Rules.{happens}
 use Rattle.channel.specs.declared.state.Channel.{Channel}
-use Rattle.set_rules.specs.State.{noChannel, channelsOf, placeOf}
+use Rattle.set_state.specs.State.{noChannel, channelsOf, placeOf}
 use Rattle.set_rules.specs.Entries.{readEntry}
 use Rattle.set_rules.specs.Records.{spaceOf}
 use Rattle.set_rules.specs.SetRules.{onTick, onHandover}
-use Rattle.set_rules.specs.declared.state.LineSet.{LineSet}
+use Rattle.set_state.specs.declared.state.LineSet.{LineSet}
 use Rattle.set_rules.proofs.Kept.{space-length, gives-as, left-as-was, no-room}
 use Rattle.records.proofs.Kept.{put-first}
 use Rattle.requests.specs.Asking.{seen, askedOf}

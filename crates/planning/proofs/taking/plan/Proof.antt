@@ -18,7 +18,7 @@ use Rattle.set_rules.specs.Entries.{planIn}
 use Rattle.set_rules.specs.Plan.{planOk}
 use Rattle.set_rules.specs.Records.{recordsOf, spaceOf}
 use Rattle.set_rules.specs.SetRules.{onPlan}
-use Rattle.set_rules.specs.declared.state.LineSet.{LineSet}
+use Rattle.set_state.specs.declared.state.LineSet.{LineSet}
 use Rattle.set_rules.proofs.Kept.{space-length, gives-as, left-as-was, no-room}
 use Rattle.planning.proofs.PlanLaws.{plan-bad, plan-good, plan-ok, plan-set}
 use Rattle.records.proofs.Kept.{put-first}

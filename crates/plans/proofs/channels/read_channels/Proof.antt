@@ -12,7 +12,7 @@ use lib.Seq.{sets}
 use borrow.Author.Tests.{not-true, not-false}
 use Rattle.fields.specs.Fields.{between}
 use Rattle.channel.specs.State.{firstDesks}
-use Rattle.set_rules.specs.State.{noChannel}
+use Rattle.set_state.specs.State.{noChannel}
 use Rattle.set_rules.specs.Plan.{channelsOk, channelsIn, filled}
 use Rattle.plans.specs.Planned.{channelsRead}
 use Rattle.plans.proofs.Filled.{filled-sets}

@@ -8,7 +8,7 @@ use lib.ListN.{length, take, drop, getD}
 use borrow.Author.Tests.{eq-eqb, ne-eqb}
 use Rattle.telegram.specs.Telegram.{num}
 use Rattle.set_rules.specs.Plan.{hasNumber, distinct}
-use Rattle.set_rules.specs.declared.state.Desk.{Desk}
+use Rattle.set_state.specs.declared.state.Desk.{Desk}
 use Rattle.plans.proofs.Pairs.{distinct-at, number-at, distinct-end, number-end}
 use borrow.Author.Needs.{needs}
 use Rattle.plans.proofs.desks.has_equal_numbers.Statement.{statement}

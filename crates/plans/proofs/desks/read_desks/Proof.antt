@@ -10,7 +10,7 @@ use native.Mathlib.Numerals.{add-one}
 use lib.ListN.{length, drop, length-set}
 use lib.Seq.{sets}
 use Rattle.laws.proofs.Lists.{part-to-end}
-use Rattle.set_rules.specs.State.{noDesk}
+use Rattle.set_state.specs.State.{noDesk}
 use Rattle.set_rules.specs.Plan.{desksOk, desksIn, filled}
 use Rattle.plans.specs.Planned.{deskIn, desksRead}
 use Rattle.plans.specs.declared.desks.DeskRead.the-variants.{Is, Bad}

@@ -9,10 +9,10 @@ use lib.ListN.{length-drop}
 use borrow.Author.Needs.{needs}
 use borrow.Author.Tests.{not-true, not-false}
 use Rattle.laws.proofs.Lists.{part-to-end}
-use Rattle.set_rules.specs.State.{noDesk}
+use Rattle.set_state.specs.State.{noDesk}
 use Rattle.set_rules.specs.Plan.{desksOk, distinct, deskCount, desksPart, channelCount, channelsPart, planOk, filled, setOf}
-use Rattle.set_rules.specs.declared.state.Desk.{Desk}
-use Rattle.set_rules.specs.declared.state.Size.{Size}
+use Rattle.set_state.specs.declared.state.Desk.{Desk}
+use Rattle.set_state.specs.declared.state.Size.{Size}
 use Rattle.plans.specs.Planned.{countsOk, sizeOf, desksRead, channelsRead, planOf}
 use Rattle.plans.proofs.Answers.{counts-found, counts-bad, Counted, counted, desks-found, desks-bad, channels-found, channels-bad, desksOf, desks-given, desks-taken, channels-given}
 use Rattle.plans.proofs.plan.read_plan.Statement.{statement}

@@ -5,7 +5,7 @@ use mathlib.Core.Path.{ap}
 use native.Mathlib.Omega.{arith}
 use denote.Ref.{now}
 use lib.ListN.{length, length-take, length-drop}
-use Rattle.set_rules.specs.State.{ownOf}
+use Rattle.set_state.specs.State.{ownOf}
 use Rattle.set_rules.specs.Records.{recordFor}
 use Rattle.bodies.specs.Bodies.{bodyFor}
 use Rattle.records.proofs.Writing.{start, all-put, part-back}

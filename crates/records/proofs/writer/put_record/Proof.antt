@@ -7,9 +7,9 @@ use native.Mathlib.Omega.{arith}
 use denote.Ref.{now}
 use lib.ListN.{length, length-take, length-drop}
 use Rattle.line_rules.specs.Notices.{Content}
-use Rattle.set_rules.specs.State.{ownOf}
+use Rattle.set_state.specs.State.{ownOf}
 use Rattle.set_rules.specs.Records.{recordFor}
-use Rattle.set_rules.specs.declared.state.Desk.{Desk}
+use Rattle.set_state.specs.declared.state.Desk.{Desk}
 use Rattle.set_rules.proofs.Kept.{record-length}
 use Rattle.bodies.specs.Bodies.{bodyFor}
 use Rattle.records.specs.Emitting.{restBytes}

@@ -11,9 +11,9 @@ use borrow.Author.Tests.{eq-eqb, ne-eqb, le-ltb, leb-true, not-true, not-false}
 use Rattle.laws.proofs.Tests.{both}
 use Rattle.laws.proofs.Lists.{part-to-end}
 use Rattle.telegram.specs.Telegram.{num, readTelegram}
-use Rattle.set_rules.specs.State.{noDesk}
+use Rattle.set_state.specs.State.{noDesk}
 use Rattle.set_rules.specs.Refusals.{fromDesk, firstOf}
-use Rattle.set_rules.specs.declared.state.Desk.{Desk}
+use Rattle.set_state.specs.declared.state.Desk.{Desk}
 use Rattle.requests.specs.Asking.{telegramAsked, inPhase, askedOf}
 use Rattle.requests.specs.declared.request.Asked.{Asked}
 use Rattle.requests.specs.declared.request.Asked.the-variants.{OnChannel}

@@ -8,9 +8,9 @@ use Rattle.telegram.specs.Telegram.{num}
 use Rattle.telegram.specs.declared.message.Number.{Number}
 use Rattle.channel.specs.State.{freeChannel, only, isIn}
 use Rattle.channel.specs.declared.state.Channel.{Channel}
-use Rattle.set_rules.specs.declared.state.Link.{Link}
-use Rattle.set_rules.specs.declared.state.Desk.{Desk}
-use Rattle.set_rules.specs.declared.state.LineSet.{LineSet}
+use Rattle.set_state.specs.declared.state.Link.{Link}
+use Rattle.set_state.specs.declared.state.Desk.{Desk}
+use Rattle.set_state.specs.declared.state.LineSet.{LineSet}
 
 -- "Each desk's link goes through three phases"
 abbrev pub newLink : Link

@@ -1,8 +1,8 @@
--- `set_rules::state::Desk::none` meets its contract: no code, no number, a new link.
+-- `set_state::state::Desk::none` meets its contract: no code, no number, a new link.
 -- Assumes nothing.
 use borrow.Author.Needs.{needs}
-use Rattle.set_rules.proofs.state.Desk.none.Statement.{statement}
-use Rattle.set_rules.proofs.state.Desk.none.Tie as tie
+use Rattle.set_state.proofs.state.Desk.none.Statement.{statement}
+use Rattle.set_state.proofs.state.Desk.none.Tie as tie
 
 returns : tie.Need-returns
 returns c = rw (c .new .ensures)

@@ -4,7 +4,7 @@ use channel::Event;
 use numerals::Digits;
 use telegram::Number;
 ghost use mathlib.Core.Path.{_≡_};
-ghost use Rattle.set_rules.specs.State.{newLink, timeTold, answered, noDesk, newSet};
+ghost use Rattle.set_state.specs.State.{newLink, timeTold, answered, noDesk, newSet};
 
 // A desk's command link, by its phase: 1 waits for the time, 2 for the operation answer, 3 is running.
 pub struct Link {

@@ -1,0 +1,18 @@
+// The state of the line set and what entries ask of it, the types that its rules speak of; and numbers in bytes.
+mod bytes;
+mod desks;
+mod state;
+
+pub use bytes::byte;
+pub use bytes::wide;
+pub use bytes::word;
+pub use desks::desk_at;
+pub use state::Answer;
+pub use state::Desk;
+pub use state::Entry;
+pub use state::LineSet;
+pub use state::Link;
+pub use state::LinkRequest;
+pub use state::Reply;
+pub use state::Request;
+pub use state::Size;
