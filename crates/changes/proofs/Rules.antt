@@ -18,7 +18,7 @@ use Rattle.channel.specs.declared.state.Channel.{Channel}
 use Rattle.channel.specs.declared.state.Event.{Event}
 use Rattle.set_state.specs.State.{ownOf, hasChannel, channelAt}
 use Rattle.set_rules.specs.Entries.{telegramIn}
-use Rattle.set_rules.specs.Refusals.{Lookup, lookup, Test, isKind, askedIn, deskOf, namedBy, firstOf, refusalOf}
+use Rattle.set_rules.specs.Refusals.{Lookup, lookupIn, Test, isKind, askedIn, deskOf, namedBy, firstOf, refusalOf}
 use Rattle.set_rules.specs.SetRules.{Effect, accepted, onChannel, onLink}
 use Rattle.set_rules.specs.Feeds.{refuse, emit, outcomeOf}
 use Rattle.set_state.specs.declared.state.Desk.{Desk}
@@ -82,7 +82,7 @@ module _ (planned : Bool) (ds : List Desk) (n : ℕ) (cs : List Channel) (k : �
   v = seen planned ds n found c
 
   abbrev w : Lookup
-  w = lookup s (namedBy request x)
+  w = lookupIn s (namedBy request x)
 
   -- ---- what was asked
 

@@ -35,7 +35,7 @@ use Rattle.set_rules.specs.Feeds.{Gives, emit}
 use Rattle.set_rules.proofs.Kept.{space-length}
 use Rattle.set_state.specs.declared.state.Desk.{Desk}
 use Rattle.set_state.specs.declared.state.LineSet.{LineSet}
-use Rattle.set_rules.specs.RecordLaws.{done}
+use Rattle.set_rules.specs.RecordLaws.{acceptedWith}
 use Rattle.line_set.proofs.Emission.{even-tick}
 use Rattle.line_set.proofs.Turns.{At, left, Summed, sum-first, sum-next, put-turn, put-end}
 
@@ -194,7 +194,7 @@ module _ (s : LineSet) (b₀ : List ℕ) {t : LineSet} {b : List ℕ} {at : ℕ}
       rest-turns d (i + 1) (omega arith) (λ j c l. r j c (omega arith)) (kept-turn s b₀ i _ p m (r i _ (omega arith) p) refl refl refl)
 
   pub tick-last : (i need end k : ℕ) → end ≤ i → i ≤ k → k ≡ length (channelsOf s) → Scanned s need end k → Ticking s b₀ i t b at
-      → Gives (emit s (onTick s) (length b₀)) (done t at) b₀ b
+      → Gives (emit s (onTick s) (length b₀)) (acceptedWith t at) b₀ b
   unfolding onTick
   tick-last i need end k l h e sc m =
       let n = length (channelsOf s) in

@@ -7,7 +7,7 @@ use native.Mathlib.Omega.{arith}
 use lib.ListN.{length}
 use borrow.Author.Tests.{le-leb}
 use Rattle.set_rules.specs.Records.{recordsOf, spaceOf}
-use Rattle.set_rules.specs.RecordLaws.{done}
+use Rattle.set_rules.specs.RecordLaws.{acceptedWith}
 use Rattle.set_rules.specs.SetRules.{Effect}
 use Rattle.set_state.specs.declared.state.Answer.{Answer}
 use Rattle.set_state.specs.declared.state.LineSet.{LineSet}
@@ -21,4 +21,4 @@ emitted s f b h e w k =
     rw (le-leb (spaceOf (f .sent)) (length b) h) (record { answer = k; bytes = w ∙ written-over b _ l })
 
 pub put-first : (s : LineSet) (f : Effect) (b : List ℕ) {t : LineSet} {at : ℕ} {a : List ℕ} → PutFirst s f b t at a
-put-first s f b h e p k = emitted s f b h e (p .1) (ap₂ done k (omega (arith, p .0, space-length (f .desks) (f .sent) e)))
+put-first s f b h e p k = emitted s f b h e (p .1) (ap₂ acceptedWith k (omega (arith, p .0, space-length (f .desks) (f .sent) e)))

@@ -18,7 +18,7 @@ use Rattle.line_rules.specs.Notices.{Content, telegram, contact}
 use Rattle.set_state.specs.State.{noDesk, ownOf}
 use Rattle.set_rules.specs.Records.{Delivery, recordFor, recordSize, toEach, recordsOf}
 use Rattle.set_state.specs.declared.state.Desk.{Desk}
-use Rattle.set_rules.specs.RecordLaws.{halves}
+use Rattle.set_rules.specs.RecordLaws.{withoutLowest}
 use Rattle.set_rules.proofs.Kept.{halves-half, in-halves}
 use Rattle.bodies.specs.Bodies.{bodyFor, delivery, contentForm, formOf, numberedFor}
 use Rattle.bodies.specs.declared.body.Body.{Body}
@@ -88,18 +88,18 @@ place-left d m p h = go (8 - d) refl h
         (omega arith, rw j (omega arith))
 
 -- the next desk, and those after it
-pub each-turn : (ds : List Desk) (d m r : ℕ) (b : Body) → d < 8 → m ≡ halves d r
+pub each-turn : (ds : List Desk) (d m r : ℕ) (b : Body) → d < 8 → m ≡ withoutLowest d r
     → Split (toEach (8 - d) d ds (delivery ds r b)) (toOne ds d m b) (toEach (8 - (d + 1)) (d + 1) ds (delivery ds r b))
 unfolding toEach toOne
 each-turn ds d m r b h e =
     let k : 8 - d ≡ suc (8 - (d + 1)) = omega arith in
     record { parts = rw (k, in-halves d r, e, add-one) refl }
 
-pub half-turn : (d m r : ℕ) → m ≡ halves d r → m / 2 ≡ halves (d + 1) r
+pub half-turn : (d m r : ℕ) → m ≡ withoutLowest d r → m / 2 ≡ withoutLowest (d + 1) r
 half-turn d m r e = rw (e, add-one) (sym (halves-half d r))
 
 -- to nobody from place d on
-pub each-none : (k d : ℕ) (ds : List Desk) (v : Delivery) → halves d (v .recipients) ≡ 0 → toEach k d ds v ≡ []
+pub each-none : (k d : ℕ) (ds : List Desk) (v : Delivery) → withoutLowest d (v .recipients) ≡ 0 → toEach k d ds v ≡ []
 unfolding toEach
 each-none zero d ds v h = refl
 each-none (suc k) d ds v h =

@@ -9,13 +9,13 @@ use lib.Seq.{drop-cons}
 use Rattle.channel.specs.declared.state.Send.{Send}
 use Rattle.set_rules.specs.Records.{delivered, recordsOf}
 use Rattle.set_state.specs.declared.state.Desk.{Desk}
-use Rattle.set_rules.specs.RecordLaws.{halves}
+use Rattle.set_rules.specs.RecordLaws.{withoutLowest}
 use Rattle.bodies.specs.Bodies.{deliveryOf}
 use Rattle.records.specs.Promises.{ToNobody, Split}
 use Rattle.records.proofs.RecordLaws.{each-none, records-one}
 
 pub nobody : ToNobody
-unfolding halves
+unfolding withoutLowest
 nobody ds v h = each-none 8 0 ds v h
 
 pub send-turn : (ds : List Desk) (ch : ℕ) (ss : List Send) (k : ℕ) (z : Send) → k < length ss

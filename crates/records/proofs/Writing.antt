@@ -10,7 +10,7 @@ use lib.Seq.{sets-eq, drop-drop, length-sets}
 use Rattle.laws.proofs.Lists.{sets-append, part-to-end}
 use Rattle.telegram.specs.Telegram.{over}
 use Rattle.records.specs.Emitting.{written}
-use Rattle.records.specs.Promises.{NoneWritten, Writing, Split, Start, Next, Room, AllPut}
+use Rattle.records.specs.Promises.{NoneWritten, Writing, Split, Start, Next, RoomLeft, AllPut}
 
 -- one run of bytes after another is the run of both
 pub written-append : (l : List ℕ) (i : ℕ) (xs ys : List ℕ) → written l i (xs ++ ys) ≡ written (written l i xs) (i + length xs) ys
@@ -53,7 +53,7 @@ next {b₀} {at} {total} {b} {p} {rest} {xs} {ys} {b′} {p′} w e ep eb = reco
 }
 
 pub room : {b₀ : List ℕ} {at : ℕ} {total b : List ℕ} {p : ℕ} {rest xs ys : List ℕ}
-    → Room b₀ at total b p rest xs ys
+    → RoomLeft b₀ at total b p rest xs ys
 room w e h = omega (arith, w .ends, w .same, simp length-append at (ap length (e .parts)))
 
 pub all-put : {b₀ : List ℕ} {at : ℕ} {total b : List ℕ} {p : ℕ} {rest : List ℕ} → AllPut b₀ at total b p rest

@@ -6,7 +6,7 @@ use mathlib.Core.List.{List, [], _++_}
 use mathlib.Core.Path.{_≡_}
 use lib.ListN.{length}
 use Rattle.set_rules.specs.Records.{Delivery, toEach, recordsOf, spaceOf}
-use Rattle.set_rules.specs.RecordLaws.{AllEven, done}
+use Rattle.set_rules.specs.RecordLaws.{AllEven, acceptedWith}
 use Rattle.set_rules.specs.SetRules.{Effect}
 use Rattle.set_rules.specs.Feeds.{Gives, emit}
 use Rattle.set_state.specs.declared.state.Answer.{Answer}
@@ -43,8 +43,8 @@ Next b₀ at total b p rest xs ys b′ p′ =
     Writing b₀ at total b p rest → Split rest xs ys → p′ ≡ p + length xs → b′ ≡ written b p xs → Writing b₀ at total b′ p′ ys
 
 -- There is room for the first of what is left (`room`).
-abbrev pub Room : List ℕ → ℕ → List ℕ → List ℕ → ℕ → List ℕ → List ℕ → List ℕ → Type 0
-Room b₀ at total b p rest xs ys =
+abbrev pub RoomLeft : List ℕ → ℕ → List ℕ → List ℕ → ℕ → List ℕ → List ℕ → List ℕ → Type 0
+RoomLeft b₀ at total b p rest xs ys =
     Writing b₀ at total b p rest → Split rest xs ys → at + length total ≤ length b₀ → p + length xs ≤ length b
 
 -- Where nothing is left, all was put (`all-put`).
@@ -57,10 +57,10 @@ AllPut b₀ at total b p rest = Writing b₀ at total b p rest → rest ≡ [] �
 abbrev pub Emitted : LineSet → Effect → List ℕ → Answer → List ℕ → Type 0
 Emitted s f b r a =
     spaceOf (f .sent) ≤ length b → AllEven (f .sent) → a ≡ written b 0 (recordsOf (f .desks) (f .sent))
-    → r ≡ done (f .after) (spaceOf (f .sent)) → Gives (emit s f (length b)) r b a
+    → r ≡ acceptedWith (f .after) (spaceOf (f .sent)) → Gives (emit s f (length b)) r b a
 
 -- Put there, with the place behind them for the count, they are too (`put-first`).
 abbrev pub PutFirst : LineSet → Effect → List ℕ → LineSet → ℕ → List ℕ → Type 0
 PutFirst s f b t at a =
     spaceOf (f .sent) ≤ length b → AllEven (f .sent) → PutAt 0 (recordsOf (f .desks) (f .sent)) at b a → t ≡ f .after
-    → Gives (emit s f (length b)) (done t at) b a
+    → Gives (emit s f (length b)) (acceptedWith t at) b a

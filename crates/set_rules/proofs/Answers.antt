@@ -27,7 +27,7 @@ use Rattle.set_rules.specs.Refusals.{askedIn, refusalOf}
 use Rattle.set_rules.specs.Records.{Delivery, delivered, recordFor, recordSize, toEach, recordsOf, spaceOf}
 use Rattle.set_rules.specs.SetRules.{Effect, onChannel, sendsOf, onTick, onHandover, onRequest, ways, accepted}
 use Rattle.set_rules.specs.Feeds.{Outcome, Item, Gives, outcomeOf, stepOf, stepBy, run, after}
-use Rattle.set_rules.specs.RecordLaws.{Even, AllEven, RecordIsLong, SpaceIsLength, EvenSends, EvenAll, halves, OneMoreHalf, LowestBit, GivesAlike, LeftAsWas, NoRoom}
+use Rattle.set_rules.specs.RecordLaws.{EvenSized, AllEven, RecordIsLong, SpaceIsLength, EvenSends, EvenAll, withoutLowest, OneMoreHalf, LowestBit, GivesAlike, LeftAsWas, NoRoom}
 use Rattle.set_rules.specs.Promises.{Refused, Counted, Renewed}
 use Rattle.set_state.specs.declared.state.Answer.{Answer}
 use Rattle.set_state.specs.declared.state.Desk.{Desk}
@@ -57,12 +57,12 @@ record-length ds d (telegram m) = let l = length-telegram (getD ds d noDesk .cod
 record-length ds d (contact k ch on) = refl
 
 pub halves-half : OneMoreHalf
-unfolding halves
+unfolding withoutLowest
 halves-half zero m = refl
 halves-half (suc d) m = halves-half d (m / 2)
 
 pub in-halves : LowestBit
-unfolding isIn halves
+unfolding isIn withoutLowest
 in-halves zero m = refl
 in-halves (suc d) m = in-halves d (m / 2)
 
@@ -76,18 +76,18 @@ one-more false x n size r q h l m =
     rw (o, add-mul, zero-mul) (simp m (omega arith))
 
 -- the records to the desks of a mask from a place on: as many as it has ones there
-pub each-length : (k d : ℕ) (ds : List Desk) (v : Delivery) → Even v
-    → length (toEach k d ds v) ≡ onesIn k (halves d (v .recipients)) * recordSize (v .content 0)
+pub each-length : (k d : ℕ) (ds : List Desk) (v : Delivery) → EvenSized v
+    → length (toEach k d ds v) ≡ onesIn k (withoutLowest d (v .recipients)) * recordSize (v .content 0)
 unfolding toEach onesIn
 each-length zero d ds v e = sym (zero-mul (recordSize (v .content 0)))
 each-length (suc k) d ds v e =
     let m = v .recipients in
     let rest = each-length k (suc d) ds v e ∙ ap (λ (h : ℕ). onesIn k h * recordSize (v .content 0)) (halves-half d m) in
-    one-more (isIn d m) (halves d m) (onesIn k (halves d m / 2)) (recordSize (v .content 0)) (recordFor ds d (v .content d)) (toEach k (suc d) ds v)
+    one-more (isIn d m) (withoutLowest d m) (onesIn k (withoutLowest d m / 2)) (recordSize (v .content 0)) (recordFor ds d (v .content d)) (toEach k (suc d) ds v)
     (sym (in-halves d m)) (record-length ds d (v .content d) ∙ e d) rest
 
 pub space-length : SpaceIsLength
-unfolding spaceOf recordsOf halves
+unfolding spaceOf recordsOf withoutLowest
 space-length ds [] e = refl
 space-length ds (v ∷ vs) e = simp (length-append, each-length 8 0 ds v (e .0), space-length ds vs (e .1)) refl
 
@@ -110,7 +110,7 @@ even-sends ds ch (s ∷ ss) = (even-notice ds ch (s .notice), even-sends ds ch s
 pub even-all : EvenAll
 unfolding sendsOf
 even-all ds f [] = tt
-even-all ds f (c ∷ cs) = each-append Even (delivered ds (c .code) (f c)) (sendsOf ds f cs) (even-sends ds (c .code) (f c)) (even-all ds f cs)
+even-all ds f (c ∷ cs) = each-append EvenSized (delivered ds (c .code) (f c)) (sendsOf ds f cs) (even-sends ds (c .code) (f c)) (even-all ds f cs)
 
 pub even-on : (s : LineSet) (ch : ℕ) (v : Event) → AllEven (onChannel s ch v .sent)
 unfolding onChannel

@@ -32,7 +32,7 @@ use Rattle.set_state.specs.State.{newSet, noChannel, ownOf, placeOf, placeIn, c
 use Rattle.laws.specs.Table.{pick}
 use Rattle.set_state.specs.Bytes.{byte}
 use Rattle.set_rules.specs.Entries.{measured, readEntry, sizeOk, asks, bad, mobileIn, telegramIn}
-use Rattle.set_rules.specs.Refusals.{Lookup, lookup, Test, askedIn, namedBy, firstOf, refusalOf, isCaller, table}
+use Rattle.set_rules.specs.Refusals.{Lookup, lookupIn, Test, askedIn, namedBy, firstOf, refusalOf, isCaller, table}
 use Rattle.set_rules.specs.Records.{Delivery, delivered, recordSize, recordsOf, spaceOf}
 use Rattle.set_rules.specs.SetRules.{Effect, effect, timeTaken, answerTaken, onChannel, movedIn, sendsOf, ticked, tickSends, endSends, onTick, onHandover, onRequest, numberIn, ways, accepted}
 use Rattle.set_rules.specs.Feeds.{Item, outcomeOf, stepOf, stepBy, ofDesk, received, Seen, seenOf, views}
@@ -107,7 +107,7 @@ module _ (B : ℕ) where
   abbrev hideLookup : Lookup → Lookup
   hideLookup v = record { planned = v .planned; desks = v .desks; count = v .count; found = v .found; channel = hide B (v .channel) }
 
-  lookup-hide : (s : LineSet) (ch : ℕ) → lookup (hideSet s) ch ≡ hideLookup (lookup s ch)
+  lookup-hide : (s : LineSet) (ch : ℕ) → lookupIn (hideSet s) ch ≡ hideLookup (lookupIn s ch)
   lookup-hide s ch = rw (channelAt-hide s ch, place-hide (s .size .channels) ch (s .channels), count-hide (s .size .channels) (s .channels)) refl
 
   -- a row that goes by that
@@ -132,7 +132,7 @@ module _ (B : ℕ) where
   refusal-hide s e x =
       let r = readTelegram (telegramIn e) in
       let ch = namedBy (askedIn (x .desk) r) x in
-      rw (lookup-hide s ch, rows-hide (lookup s ch) e r x table (blind (lookup s ch) e r x))
+      rw (lookup-hide s ch, rows-hide (lookupIn s ch) e r x table (blind (lookupIn s ch) e r x))
 
   -- ---- what an effect shows B, and what it leaves
 

@@ -11,7 +11,7 @@ use Rattle.laws.specs.Each.{Each}
 use Rattle.telegram.specs.Telegram.{readTelegram}
 use Rattle.telegram.specs.declared.message.Reading.{Reading}
 use Rattle.set_rules.specs.Entries.{telegramIn}
-use Rattle.set_rules.specs.Refusals.{Lookup, lookup, Test, askedIn, namedBy, row4, row6, row12, row14, row15, firstOf, refusalOf, table}
+use Rattle.set_rules.specs.Refusals.{Lookup, lookupIn, Test, askedIn, namedBy, row4, row6, row12, row14, row15, firstOf, refusalOf, table}
 use Rattle.laws.specs.Each.{Each}
 use Rattle.set_state.specs.declared.state.LineSet.{LineSet}
 use Rattle.set_state.specs.declared.state.Entry.{Entry}
@@ -25,7 +25,7 @@ module _ (s : LineSet) (e : List ℕ) (x : Entry) where
   r = readTelegram (telegramIn e)
 
   abbrev v : Lookup
-  v = lookup s (namedBy (askedIn (x .desk) r) x)
+  v = lookupIn s (namedBy (askedIn (x .desk) r) x)
 
   abbrev Fails : ℕ × Test → Type 0
   Fails row = (row .1) v e r x ≡ false

@@ -20,11 +20,11 @@ use Rattle.set_state.specs.declared.state.LineSet.{LineSet}
 -- ---- how long records are
 
 -- what a delivery says takes the same space to each desk
-abbrev pub Even : Delivery → Type 0
-Even v = (d : ℕ) → recordSize (v .content d) ≡ recordSize (v .content 0)
+abbrev pub EvenSized : Delivery → Type 0
+EvenSized v = (d : ℕ) → recordSize (v .content d) ≡ recordSize (v .content 0)
 
 abbrev pub AllEven : List Delivery → Type 0
-AllEven = Each Even
+AllEven = Each EvenSized
 
 -- A record is as long as its size says (`record-length`), and records as the space that is summed for them (`space-length`).
 abbrev pub RecordIsLong : Type 0
@@ -43,16 +43,16 @@ EvenAll = (ds : List Desk) (f : Channel → List Send) (cs : List Channel) → A
 -- ---- the desks of a mask, one after another
 
 -- a mask without its lowest d bits
-unfoldable pub halves : ℕ → ℕ → ℕ
-halves zero m = m
-halves (suc d) m = halves d (m / 2)
+unfoldable pub withoutLowest : ℕ → ℕ → ℕ
+withoutLowest zero m = m
+withoutLowest (suc d) m = withoutLowest d (m / 2)
 
 -- One bit more is a half (`halves-half`), and a desk is in the mask if the lowest bit left is 1 (`in-halves`).
 abbrev pub OneMoreHalf : Type 0
-OneMoreHalf = (d m : ℕ) → halves (suc d) m ≡ halves d m / 2
+OneMoreHalf = (d m : ℕ) → withoutLowest (suc d) m ≡ withoutLowest d m / 2
 
 abbrev pub LowestBit : Type 0
-LowestBit = (d m : ℕ) → isIn d m ≡ eqb (halves d m % 2) 1
+LowestBit = (d m : ℕ) → isIn d m ≡ eqb (withoutLowest d m % 2) 1
 
 -- ---- answers and buffers
 
@@ -68,5 +68,5 @@ abbrev pub NoRoom : LineSet → List ℕ → Effect → Answer → Type 0
 NoRoom s b f r = length b < spaceOf (f .sent) → Gives (refuse 16 s) r b b → Gives (emit s f (length b)) r b b
 
 -- the answer to what is not refused
-abbrev pub done : LineSet → ℕ → Answer
-done t n = record { set = t; count = n; refusal = 0 }
+abbrev pub acceptedWith : LineSet → ℕ → Answer
+acceptedWith t n = record { set = t; count = n; refusal = 0 }

@@ -36,8 +36,8 @@ pub record Lookup : Type 0 where
   pub found : Bool
   pub channel : Channel
 
-abbrev pub lookup : LineSet → ℕ → Lookup
-lookup s ch = record { planned = s .planned; desks = s .desks; count = s .size .desks; found = hasChannel s ch; channel = channelAt s ch }
+abbrev pub lookupIn : LineSet → ℕ → Lookup
+lookupIn s ch = record { planned = s .planned; desks = s .desks; count = s .size .desks; found = hasChannel s ch; channel = channelAt s ch }
 
 abbrev pub Test : Type 0
 Test = Lookup → List ℕ → Reading → Entry → Bool
@@ -193,4 +193,4 @@ firstOf (row ∷ rows) v e r x = cond ((row .1) v e r x) (row .0) (firstOf rows 
 unfoldable pub refusalOf : LineSet → List ℕ → Entry → ℕ
 refusalOf s e x =
     let r : Reading = readTelegram (telegramIn e) in
-    cond (eqb (x .refusal) 0) (firstOf table (lookup s (namedBy (askedIn (x .desk) r) x)) e r x) (x .refusal)
+    cond (eqb (x .refusal) 0) (firstOf table (lookupIn s (namedBy (askedIn (x .desk) r) x)) e r x) (x .refusal)

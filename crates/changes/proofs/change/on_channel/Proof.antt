@@ -15,7 +15,7 @@ use Rattle.set_rules.specs.Feeds.{emit}
 use Rattle.set_rules.proofs.Kept.{even-sends, space-length}
 use Rattle.changes.specs.Changes.{setWith}
 use Rattle.changes.proofs.Heard.{same-space, same-records}
-use Rattle.set_rules.specs.RecordLaws.{done}
+use Rattle.set_rules.specs.RecordLaws.{acceptedWith}
 use Rattle.set_rules.proofs.Kept.{gives-as, no-room}
 use Rattle.changes.proofs.Changing.{refused, movedAt, moved-at}
 use Rattle.records.proofs.Kept.{emitted}
@@ -51,7 +51,7 @@ returns-2 c = λ ch planned cs k place w.
     gives-as (ap (λ (g : Effect). emit s g (length b)) (moved-at s ch place (a .event) (a .c) w))
     (emitted s f b (omega (arith, total, c .before .before .before .before .before .if1 .left)) (even-sends _ _ _)
     (c .before .before .before .put .ensures .1 ∙ ap (λ (l : List ℕ). written b 0 l) (same-records (a .desks) (a .c .code) _ _ (m .1)))
-    (ap₂ (λ (x : Channel) (n : ℕ). done (withChannels (set cs place x) s) n) (m .0) total))
+    (ap₂ (λ (x : Channel) (n : ℕ). acceptedWith (withChannels (set cs place x) s) n) (m .0) total))
 
 pub on-channel-spec : {M : Type 1} → statement M
 on-channel-spec =

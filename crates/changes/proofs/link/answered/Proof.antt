@@ -11,7 +11,7 @@ use Rattle.set_rules.specs.SetRules.{answerTaken}
 use Rattle.set_state.specs.declared.state.Desk.{Desk}
 use Rattle.set_state.specs.declared.state.Link.{Link}
 use Rattle.changes.specs.Changes.{setWith}
-use Rattle.set_rules.specs.RecordLaws.{done}
+use Rattle.set_rules.specs.RecordLaws.{acceptedWith}
 use Rattle.records.proofs.Kept.{emitted}
 use borrow.Author.Needs.{needs}
 use Rattle.changes.proofs.link.answered.Statement.{statement}
@@ -25,7 +25,7 @@ returns c = λ planned n cs k.
     let s = setWith planned (a .desks) n cs k in
     let l = c .before .answered .ensures ∙ ap (λ (j : Desk). answered (a .state) (j .link)) (c .before .before .desk-at .ensures) in
     emitted s (answerTaken s (a .d) (a .state)) b (omega arith) tt (sym (written-none _ _))
-    (ap (λ (ds : List Desk). done (withDesks ds s) 0) (c .linked .ensures ∙ ap (λ (j : Link). linkedAt (a .d) (λ (i : Link). j) (a .desks)) l))
+    (ap (λ (ds : List Desk). acceptedWith (withDesks ds s) 0) (c .linked .ensures ∙ ap (λ (j : Link). linkedAt (a .d) (λ (i : Link). j) (a .desks)) l))
 
 pub answered-spec : {M : Type 1} → statement M
 answered-spec = tie.close (tie.spec (λ c κs. search needs) (λ c κs. search needs) (λ c κs. search needs) returns)

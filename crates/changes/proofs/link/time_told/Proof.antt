@@ -15,7 +15,7 @@ use Rattle.set_rules.proofs.Kept.{space-length}
 use Rattle.set_state.specs.declared.state.Desk.{Desk}
 use Rattle.set_state.specs.declared.state.Link.{Link}
 use Rattle.changes.specs.Changes.{setWith}
-use Rattle.set_rules.specs.RecordLaws.{done}
+use Rattle.set_rules.specs.RecordLaws.{acceptedWith}
 use Rattle.set_rules.proofs.Kept.{no-room}
 use Rattle.records.proofs.Kept.{emitted}
 use borrow.Author.Needs.{needs}
@@ -47,7 +47,7 @@ returns-2 c = λ planned n cs k.
     let l = c .before .time-told .ensures ∙ ap (λ (j : Desk). timeTold (j .link)) (c .before .before .desk-at .ensures) in
     emitted s f b (omega (arith, total, c .before .before .before .before .before .before .before .if1 .left)) (λ k. refl, tt)
     (c .before .before .before .before .before .put-to .ensures .1 ∙ ap (λ (m : ℕ). written b 0 (recordsOf (a .desks) (delivery (a .desks) m OperationRequest ∷ []))) to)
-    (ap₂ (λ (ds : List Desk) (m : ℕ). done (withDesks ds s) m) (c .linked .ensures ∙ ap (λ (j : Link). linkedAt (a .d) (λ (i : Link). j) (a .desks)) l) total)
+    (ap₂ (λ (ds : List Desk) (m : ℕ). acceptedWith (withDesks ds s) m) (c .linked .ensures ∙ ap (λ (j : Link). linkedAt (a .d) (λ (i : Link). j) (a .desks)) l) total)
 
 pub time-told-spec : {M : Type 1} → statement M
 time-told-spec =

@@ -6,7 +6,7 @@ use mathlib.Core.List.{[], _∷_}
 use mathlib.Core.Path.{_≡_, refl}
 use native.Mathlib.Omega.{arith}
 use Rattle.set_rules.specs.Records.{toEach, recordsOf}
-use Rattle.set_rules.specs.RecordLaws.{halves}
+use Rattle.set_rules.specs.RecordLaws.{withoutLowest}
 use Rattle.bodies.specs.Bodies.{delivery}
 use Rattle.records.specs.Promises.{Writing}
 use Rattle.records.proofs.Writing.{start, next, room, all-put}
@@ -16,13 +16,13 @@ use Rattle.records.proofs.writer.put_each.Statement.{statement}
 use Rattle.records.proofs.writer.put_each.Tie as tie
 
 abbrev Inv-loop : tie.InvT-loop
-Inv-loop buffer₀ at desks recipients body shape form p₀ d₀ m₀ buffer p d m = Writing buffer₀ at (recordsOf desks (delivery desks recipients body ∷ [])) buffer p (toEach (8 - d) d desks (delivery desks recipients body)) × (m ≡ halves d recipients) × (m < 2 ^ (8 - d))
+Inv-loop buffer₀ at desks recipients body shape form p₀ d₀ m₀ buffer p d m = Writing buffer₀ at (recordsOf desks (delivery desks recipients body ∷ [])) buffer p (toEach (8 - d) d desks (delivery desks recipients body)) × (m ≡ withoutLowest d recipients) × (m < 2 ^ (8 - d))
 
 abbrev μ-loop : tie.MeasureT-loop
 μ-loop buffer₀ at desks recipients body shape form p₀ d₀ m₀ buffer p d m = m
 
 loop-holds : tie.Need-loop-holds Inv-loop μ-loop
-unfolding halves
+unfolding withoutLowest
 loop-holds c = (rw records-one (start _ _ _), refl, search needs)
 
 put-one-requires : tie.Need-put-one-requires Inv-loop μ-loop
@@ -50,7 +50,7 @@ returns : tie.Need-returns Inv-loop μ-loop
 returns c =
     let l = c .before .loop in
     let a = c .before .before .before .before .args in
-    let none : halves (l .d) (a .recipients) ≡ 0 = omega (arith, l .inv .1) in
+    let none : withoutLowest (l .d) (a .recipients) ≡ 0 = omega (arith, l .inv .1) in
     all-put (l .inv .0) (each-none (8 - l .d) (l .d) (a .desks) (delivery (a .desks) (a .recipients) (a .body)) none)
 
 pub put-each-spec : {M : Type 1} → statement M
