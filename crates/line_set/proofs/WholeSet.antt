@@ -40,7 +40,7 @@ module _ (s : LineSet) (e : List ℕ) (x : Entry) (is : x ≡ readEntry e) where
   plan-present room k h = sym (rw (could-read 7 (omega arith) k, k, h) refl) ∙ as-step room
 
   pub plan-taken : (r : Answer) {plan b a : List ℕ} → x .kind ≡ 7 → s .planned ≡ false → planIn e ≡ plan → PlanGives plan r b a → Gives (stepOf s e (length b)) (settled s r) b a
-  plan-taken r {plan} {b} k h w g = gives-as (as-step (length b)) (g s e x h (could-read 7 (omega arith) k) k w)
+  plan-taken r {plan} {b} k h w g = gives-as (as-step (length b)) (g .1 s e x h (could-read 7 (omega arith) k) k w)
 
   pub tick-step : (room : ℕ) → (s .planned && eqb (x .kind) 6) ≡ true → emit s (onTick s) room ≡ stepOf s e room
   unfolding outcomeOf refusalOf firstOf accepted pick

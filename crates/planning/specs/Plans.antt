@@ -5,6 +5,7 @@ use mathlib.Core.Bool.{false, cond}
 use mathlib.Core.Path.{_≡_}
 use lib.Dec.{eqb}
 use lib.ListN.{length}
+use Rattle.plans.specs.Planned.{planOf}
 use Rattle.set_rules.specs.Entries.{planIn}
 use Rattle.set_rules.specs.Feeds.{Gives, outcomeOf}
 use Rattle.set_state.specs.declared.state.Answer.{Answer}
@@ -15,8 +16,9 @@ use Rattle.set_state.specs.declared.state.LineSet.{LineSet}
 abbrev pub settled : LineSet → Answer → Answer
 settled s r = record { set = cond (eqb (r .refusal) 0) (r .set) s; count = r .count; refusal = r .refusal }
 
--- the answer in every set without a plan
+-- the set is the one that was read, and the answer that of every set without a plan
 abbrev pub PlanGives : List ℕ → Answer → List ℕ → List ℕ → Type 0
 PlanGives plan r before after =
-    (s : LineSet) (e : List ℕ) (x : Entry) → s .planned ≡ false → x .refusal ≡ 0 → x .kind ≡ 7 → planIn e ≡ plan
-    → Gives (outcomeOf s e x (length before)) (settled s r) before after
+    r .set ≡ planOf plan .set
+    × ((s : LineSet) (e : List ℕ) (x : Entry) → s .planned ≡ false → x .refusal ≡ 0 → x .kind ≡ 7 → planIn e ≡ plan
+    → Gives (outcomeOf s e x (length before)) (settled s r) before after)
