@@ -1,6 +1,4 @@
-// The writer of the telegrams: `put` writes a message in a straight line; `write` checks it first.
+// The writer of the telegrams: `write` checks a message, and writes it if it may be sent and there is room.
 mod writer;
 
-pub use writer::put;
-pub use writer::size;
 pub use writer::write;

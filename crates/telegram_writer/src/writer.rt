@@ -18,7 +18,7 @@ ghost use Rattle.telegram.specs.Telegram.{inRange, over, sizeOf, telegramOf, wr
 ghost use Rattle.telegram_forms.specs.Forms.{padded};
 
 // How many bytes a message is as a telegram.
-pub fn size(message: Message) -> usize
+fn size(message: Message) -> usize
     ensures { λ r. ⌜ r ≡ sizeOf message ⌝ }
 {
     match message {
@@ -55,7 +55,7 @@ fn form(message: Message) -> [u8; 46]
 
 // Writes a message to the front of a buffer that has room for it, and says how many bytes it is.
 // A number that is too large for its field loses its highest digits: whoever calls this knows the numbers.
-pub fn put(message: Message, code: u32, buffer: &mut [u8]) -> usize
+fn put(message: Message, code: u32, buffer: &mut [u8]) -> usize
     requires { ⌜ sizeOf message ≤ length (now buffer) ⌝ }
     ensures { λ r. ⌜ r ≡ sizeOf message ⌝ }
     ensures { λ r. ⌜ now (buffer .exit) ≡ over (telegramOf code message) (now (buffer .entry)) ⌝ }
