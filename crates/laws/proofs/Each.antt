@@ -38,3 +38,8 @@ module _ {A : Type 0} (P : A → Type 0) where
   pub each-same : (n : ℕ) (z : A) → P z → Each P (replicate n z)
   each-same zero z p = tt
   each-same (suc n) z p = (p, each-same n z p)
+
+-- what has one property has another that follows from it
+pub each-map : {A : Type 0} (P Q : A → Type 0) → ((x : A) → P x → Q x) → (xs : List A) → Each P xs → Each Q xs
+each-map P Q f [] o = tt
+each-map P Q f (x ∷ xs) o = (f x (o .0), each-map P Q f xs (o .1))

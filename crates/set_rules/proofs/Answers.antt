@@ -1,6 +1,6 @@
 -- What holds of every answer: refused ones change nothing, the count is the records' length, a handover renews the set.
 -- Assumes nothing.
-use Prim.Native.Nat.{ℕ, zero, suc, _+_, _*_, _/_, _%_}
+use Prim.Native.Nat.{ℕ, zero, suc, _+_, _-_, _*_, _/_, _%_, _≤_}
 use mathlib.Core.List.{List, [], _∷_, _++_}
 use mathlib.Core.Bool.{Bool, true, false, cond, false≢true}
 use mathlib.Core.Path.{_≡_, refl, sym, ap, subst, _∙_}
@@ -8,9 +8,10 @@ use native.Mathlib.Omega.{arith}
 use native.Mathlib.Nat.{add-mul, one-mul, zero-mul}
 use lib.Count.{onesIn}
 use lib.Dec.{eqb, leb}
-use lib.ListN.{length, length-append, getD}
-use borrow.Author.Tests.{eqb-true, eqb-false, eq-eqb, lt-leb}
-use Rattle.telegram.specs.Telegram.{readTelegram}
+use lib.ListN.{length, length-append, length-drop, drop, getD}
+use lib.Seq.{take-at, drop-at}
+use borrow.Author.Tests.{eqb-true, eqb-false, eq-eqb, lt-leb, leb-true}
+use Rattle.telegram.specs.Telegram.{readTelegram, over}
 use Rattle.laws.proofs.Each.{_▹_, each-append}
 use Rattle.telegram.proofs.Kept.{length-telegram}
 use Rattle.channel.specs.State.{isIn}
@@ -28,7 +29,7 @@ use Rattle.set_rules.specs.Records.{Delivery, delivered, recordFor, reco
 use Rattle.set_rules.specs.SetRules.{Effect, onChannel, sendsOf, onTick, onHandover, onRequest, ways, accepted}
 use Rattle.set_rules.specs.Feeds.{Outcome, Item, Gives, outcomeOf, stepOf, stepBy, run, after}
 use Rattle.set_rules.specs.RecordLaws.{EvenSized, AllEven, RecordIsLong, SpaceIsLength, EvenSends, EvenAll, withoutLowest, OneMoreHalf, LowestBit, GivesAlike, LeftAsWas, NoRoom}
-use Rattle.set_rules.specs.Promises.{Refused, Counted, Renewed}
+use Rattle.set_rules.specs.Promises.{Refused, Counted, Written, Renewed}
 use Rattle.set_state.specs.declared.state.Answer.{Answer}
 use Rattle.set_state.specs.declared.state.Desk.{Desk}
 use Rattle.set_state.specs.declared.state.LineSet.{LineSet}
@@ -146,6 +147,35 @@ counted s e room = go (eqb (refusalOf s e (readEntry e)) 0) refl (leb (spaceOf (
     go true k false l = rw (k, l)
     go false k u l = rw k
 
+-- ---- the buffer after an entry
+
+-- what is written fits
+fits : (s : LineSet) (e : List ℕ) (room : ℕ) → stepOf s e room .count ≤ room
+unfolding outcomeOf stepOf
+fits s e room = go (eqb (refusalOf s e (readEntry e)) 0) refl (leb (spaceOf (accepted s e (readEntry e) .sent)) room) refl
+  where
+    go : (t : Bool) → eqb (refusalOf s e (readEntry e)) 0 ≡ t → (u : Bool) → leb (spaceOf (accepted s e (readEntry e) .sent)) room ≡ u
+        → stepOf s e room .count ≤ room
+    go true k true l = rw (k, l) (leb-true _ room l)
+    go true k false l = rw (k, l) (omega arith)
+    go false k u l = rw k (omega arith)
+
+pub written : Written
+written s i =
+    let o = stepBy s i in
+    let b = i .buffer in
+    let n : length (o .bytes) ≡ o .count = sym (counted s (i .entry) (length b)) in
+    let l : length (over (o .bytes) b) ≡ length (o .bytes) + (length b - length (o .bytes)) =
+    length-append (o .bytes) (drop (length (o .bytes)) b) ∙ ap (λ (k : ℕ). length (o .bytes) + k) (length-drop (length (o .bytes)) b) in
+    let f : o .count ≤ length b = fits s (i .entry) (length b) in
+    (
+      omega (arith, l, n, f),
+      (
+        take-at (o .bytes) (drop (length (o .bytes)) b) (o .count) n,
+        drop-at (o .bytes) (drop (length (o .bytes)) b) (o .count) n ∙ ap (λ (k : ℕ). drop k b) n,
+      ),
+    )
+
 -- ---- answers as outcomes give them
 
 pub gives-as : {o o′ : Outcome} {r : Answer} {b a : List ℕ} → GivesAlike o o′ r b a
@@ -168,10 +198,10 @@ pub accepted-after : (s : LineSet) (i : Item) → stepBy s i .refusal ≡ 0
     → (refusalOf s (i .entry) (readEntry (i .entry)) ≡ 0) × (stepBy s i .after ≡ accepted s (i .entry) (readEntry (i .entry)) .after)
 unfolding outcomeOf stepOf
 accepted-after s i z =
-    go (eqb (refusalOf s (i .entry) (readEntry (i .entry))) 0) refl (leb (spaceOf (accepted s (i .entry) (readEntry (i .entry)) .sent)) (i .room)) refl
+    go (eqb (refusalOf s (i .entry) (readEntry (i .entry))) 0) refl (leb (spaceOf (accepted s (i .entry) (readEntry (i .entry)) .sent)) (length (i .buffer))) refl
   where
     go : (t : Bool) → eqb (refusalOf s (i .entry) (readEntry (i .entry))) 0 ≡ t
-        → (u : Bool) → leb (spaceOf (accepted s (i .entry) (readEntry (i .entry)) .sent)) (i .room) ≡ u
+        → (u : Bool) → leb (spaceOf (accepted s (i .entry) (readEntry (i .entry)) .sent)) (length (i .buffer)) ≡ u
         → (refusalOf s (i .entry) (readEntry (i .entry)) ≡ 0) × (stepBy s i .after ≡ accepted s (i .entry) (readEntry (i .entry)) .after)
     go true k true l = (eqb-true _ 0 k, rw (k, l))
     go true k false l = absurd (let f : _≡_ {A = ℕ} 16 0 = rw (k, l) at z in omega arith)

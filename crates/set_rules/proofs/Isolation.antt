@@ -35,7 +35,7 @@ use Rattle.set_rules.specs.Entries.{measured, readEntry, sizeOk, asks, b
 use Rattle.set_rules.specs.Refusals.{Lookup, lookupIn, Test, askedIn, namedBy, firstOf, refusalOf, isCaller, table}
 use Rattle.set_rules.specs.Records.{Delivery, delivered, recordSize, recordsOf, spaceOf}
 use Rattle.set_rules.specs.SetRules.{Effect, effect, timeTaken, answerTaken, onChannel, movedIn, sendsOf, ticked, tickSends, endSends, onTick, onHandover, onRequest, numberIn, ways, accepted}
-use Rattle.set_rules.specs.Feeds.{Item, outcomeOf, stepOf, stepBy, ofDesk, received, Seen, seenOf, views}
+use Rattle.set_rules.specs.Feeds.{Outcome, Item, outcomeOf, stepOf, stepBy, cutUp, ofDesk, received, Seen, seenOf, views}
 use Rattle.set_rules.specs.Promises.{AlikeBut, Renumbered, OtherHolds, MayDiffer, same, talks, Related, ended, more, Isolated}
 use Rattle.laws.specs.Each.{Each}
 use Rattle.set_state.specs.declared.state.Desk.{Desk}
@@ -46,6 +46,7 @@ use Rattle.set_state.specs.declared.state.Request.{Request}
 use Rattle.set_state.specs.declared.state.Request.the-variants.{OfLink, OnChannel, Foreign}
 use Rattle.laws.proofs.Each.{_▹_}
 use Rattle.laws.proofs.Table.{pick-matched}
+use Rattle.set_rules.proofs.Answers.{written}
 use Rattle.set_rules.proofs.Received.{AllLike, space-like, received-like, like-append}
 
 -- nobody is in the empty set
@@ -324,8 +325,15 @@ module _ (B : ℕ) where
     seen : Seen
     left : LineSet
 
+  -- what B sees of an outcome, whatever the buffer held
+  abbrev seenIn : Outcome → Seen
+  seenIn o = record { refusal = o .refusal; count = o .count; records = received B (o .bytes) }
+
   abbrev view : LineSet → List ℕ → ℕ → View
-  view s e room = record { seen = seenOf B (stepOf s e room); left = hideSet (stepOf s e room .after) }
+  view s e room = record { seen = seenIn (stepOf s e room); left = hideSet (stepOf s e room .after) }
+
+  seen-is : (s : LineSet) (i : Item) → seenOf B i (stepBy s i) ≡ seenIn (stepBy s i)
+  seen-is s i = rw (written s i .1 .0)
 
   abbrev viewed : ℕ → ℕ → List ℕ → LineSet → View
   viewed n k got left = record { seen = record { refusal = n; count = k; records = got }; left = left }
@@ -338,7 +346,7 @@ module _ (B : ℕ) where
   viewOf s e x room = viewBy (refusalOf s e x) (shown (accepted s e x)) (hideSet s) room
 
   view-is : (s : LineSet) (e : List ℕ) (room : ℕ) → view s e room ≡ viewOf s e (readEntry e) room
-  unfolding outcomeOf stepOf ofDesk
+  unfolding outcomeOf stepOf cutUp ofDesk
   view-is s e room = go (eqb (refusalOf s e (readEntry e)) 0) refl (leb (spaceOf (accepted s e (readEntry e) .sent)) room) refl
     where
       go : (t : Bool) → eqb (refusalOf s e (readEntry e)) 0 ≡ t → (u : Bool) → leb (spaceOf (accepted s e (readEntry e) .sent)) room ≡ u
@@ -456,10 +464,11 @@ module _ (B : ℕ) where
   unfolding views
   views-alike s s′ [] [] h ended = refl
   views-alike s s′ (i ∷ f) (i′ ∷ f′) h (more a r rest) =
-      let v : view s (i .entry) (i .room) ≡ view s′ (i′ .entry) (i′ .room) =
-      view-alike s s′ h (i .entry) (i′ .entry) (i .room) a ∙ ap (view s′ (i′ .entry)) r in
+      let v : view s (i .entry) (length (i .buffer)) ≡ view s′ (i′ .entry) (length (i′ .buffer)) =
+      view-alike s s′ h (i .entry) (i′ .entry) (length (i .buffer)) a ∙ ap (view s′ (i′ .entry)) r in
       let k = views-alike (stepBy s i .after) (stepBy s′ i′ .after) f f′ (ap (λ (w : View). w .left) v) rest in
-      rw (ap (λ (w : View). w .seen) v, k)
+      let seen : seenOf B i (stepBy s i) ≡ seenOf B i′ (stepBy s′ i′) = seen-is s i ∙ ap (λ (w : View). w .seen) v ∙ sym (seen-is s′ i′) in
+      rw (seen, k)
 
 pub isolated : Isolated
 isolated B f f′ r = views-alike B newSet newSet f f′ refl r

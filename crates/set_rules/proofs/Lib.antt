@@ -1,10 +1,10 @@
-mod Marked
 mod Answers
 mod Received
 mod Isolation
 mod Witness
 mod Rows
-mod Ticks
-mod AllMarked
 mod Readable
+mod Ticks
+mod Marked
+mod Worked
 pub mod Kept

@@ -333,7 +333,7 @@ step-ok s i ok = go (eqb (stepBy s i .refusal) 0) refl
     go true h =
         let f = accepted-after s i (eqb-true _ 0 h) in
         rw (f .1) (accepted-ok s ok (i .entry) (readEntry (i .entry)) (asked-ok (i .entry)) (f .0) .set-ok)
-    go false h = rw (refused s (i .entry) (i .room) (λ p. false≢true (sym h ∙ eq-eqb _ 0 p)) .1) ok
+    go false h = rw (refused s (i .entry) (length (i .buffer)) (λ p. false≢true (sym h ∙ eq-eqb _ 0 p)) .1) ok
 
 feed-ok : (s : LineSet) (f : List Item) → SetOk s → SetOk (after s f)
 unfolding after

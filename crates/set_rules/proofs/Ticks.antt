@@ -6,27 +6,32 @@ use mathlib.Core.Bool.{Bool, true, false, _&&_, not, cond, false≢true}
 use mathlib.Core.Path.{_≡_, refl, sym, ap, _∙_}
 use native.Mathlib.Omega.{arith}
 use lib.Dec.{eqb, leb, ltb}
-use lib.ListN.{length, replicate}
+use lib.ListN.{length, replicate, getD}
 use Rattle.laws.proofs.Tests.{by-test}
-use Rattle.channel.specs.State.{isIn}
-use Rattle.line_rules.specs.Rules.{happens, pressOff, tick, tickIdle, tickQuiet, tickRelease, endOf, freedSends}
+use Rattle.channel.specs.State.{isIn, isHeld}
+use Rattle.line_rules.specs.Rules.{happens, pressOff, tick, tickIdle, tickQuiet, tickRelease, isOpen, isPressed, endOf, freedSends}
 use Rattle.line_rules.specs.Promises.{quietly}
 use Rattle.channel.specs.declared.state.Party.the-variants.{By}
 use Rattle.channel.specs.declared.state.Call.{Call}
+use Rattle.channel.specs.declared.state.Call.the-variants.{Closed, Open}
 use Rattle.channel.specs.declared.state.Arrival.the-variants.{Absent}
 use Rattle.channel.specs.declared.state.Channel.{Channel}
 use Rattle.channel.specs.declared.state.Send.{Send}
-use Rattle.set_state.specs.State.{placeOf, hasChannel, channelAt, listenersOf}
+use Rattle.set_state.specs.State.{newSet, noChannel, placeOf, hasChannel, channelAt, listenersOf}
 use Rattle.set_rules.specs.Entries.{readEntry}
 use Rattle.laws.specs.Each.{Each}
 use Rattle.laws.specs.Table.{pick}
 use Rattle.set_rules.specs.Refusals.{firstOf, refusalOf}
-use Rattle.set_rules.specs.Records.{Delivery, delivered, recordsOf, spaceOf}
+use Rattle.set_rules.specs.Records.{delivered, recordsOf, spaceOf}
 use Rattle.set_rules.specs.SetRules.{sendsOf, onChannel, onTick, accepted}
-use Rattle.set_rules.specs.Feeds.{Outcome, outcomeOf, stepOf, stepBy, run}
-use Rattle.set_rules.specs.Promises.{entryOf, ticks, Accepted, Ticked}
+use Rattle.set_rules.specs.Feeds.{Outcome, Item, outcomeOf, stepOf, stepBy, run, after}
+use Rattle.set_rules.specs.Spelling.{entryOf}
+use Rattle.set_rules.specs.Marked.{Accepted, Ticked, tickedBy, tickOf, ticksWith, endBytes, EndsAt}
 use Rattle.set_rules.proofs.Answers.{accepted-after}
 use Rattle.set_rules.proofs.Rows.{no-row}
+use Rattle.set_rules.proofs.Readable.{always-ok}
+use Rattle.line_rules.specs.Invariant.{ChannelOk}
+use Rattle.telegram.specs.declared.message.Number.{Number}
 use Rattle.set_state.specs.declared.state.Desk.{Desk}
 use Rattle.set_state.specs.declared.state.LineSet.{LineSet}
 use Rattle.set_state.specs.declared.state.Entry.{Entry}
@@ -48,39 +53,59 @@ tick-done s room p z =
     (λ l. record { bytes-are = rw (tick-accepted s p, l); after-is = rw (tick-accepted s p, l) })
     (λ l. absurd (let f : _≡_ {A = ℕ} 16 0 = rw (tick-accepted s p, l) at z in omega arith))
 
--- what each of so many ticks sends
-sentBy : ℕ → LineSet → List (List Delivery)
-sentBy zero s = []
-sentBy (suc n) s = onTick s .sent ∷ sentBy n (onTick s .after)
+-- what a tick of a set writes, and how it leaves the first channel
+tickIn : LineSet → Ticked
+tickIn s =
+    let c : Channel = getD (onTick s .after .channels) 0 noChannel in
+    tickedBy (recordsOf (s .desks) (onTick s .sent)) (isOpen (c .call)) (isHeld (c .holder))
 
--- a tick changes channels alone
-kept : (s : LineSet) → (onTick s .after .planned ≡ s .planned) × (onTick s .after .desks ≡ s .desks)
+-- the same of so many ticks
+byTicks : ℕ → LineSet → List Ticked
+byTicks zero s = []
+byTicks (suc n) s = tickIn s ∷ byTicks n (onTick s .after)
+
+-- a tick leaves the plan
+kept : (s : LineSet) → onTick s .after .planned ≡ s .planned
 unfolding onTick
-kept s = (refl, refl)
+kept s = refl
 
-bytes-of : (rooms : List ℕ) (s : LineSet) → s .planned ≡ true → Each Accepted (run s (ticks rooms))
-    → map (λ (o : Outcome). o .bytes) (run s (ticks rooms)) ≡ map (recordsOf (s .desks)) (sentBy (length rooms) s)
-unfolding run sentBy
-bytes-of [] s p a = refl
-bytes-of (room ∷ rooms) s p a =
-    let k = tick-done s room p (a .0) in
-    let b : Each Accepted (run (onTick s .after) (ticks rooms)) = rw (k .after-is) at (a .1) in
-    let r = rw (kept s .1) at (bytes-of rooms (onTick s .after) (kept s .0 ∙ p) b) in
-    rw (k .bytes-are, k .after-is, r)
+ticks-are : (bs : List (List ℕ)) (s : LineSet) → s .planned ≡ true → Each Accepted (run s (ticksWith bs))
+    → map tickOf (run s (ticksWith bs)) ≡ byTicks (length bs) s
+unfolding run byTicks tickIn
+ticks-are [] s p a = refl
+ticks-are (b ∷ bs) s p a =
+    let k = tick-done s (length b) p (a .0) in
+    let rest : Each Accepted (run (onTick s .after) (ticksWith bs)) = rw (k .after-is) at (a .1) in
+    rw (k .bytes-are, k .after-is, ticks-are bs (onTick s .after) (kept s ∙ p) rest)
 
--- ---- 130 ticks of a set with one channel, held, with no press and no arrival
+-- ---- 130 ticks of a set with one channel, held, with an open call, no press and no arrival
 
 abbrev setWith : Channel → List Channel → List Desk → ℕ → LineSet
 setWith c rest ds n = record { channels = c ∷ rest; desks = ds; size = record { desks = n; channels = 1 }; planned = true }
 
-ticking : (code entitled d n : ℕ) (k : Call) (rest : List Channel) (ds : List Desk)
-    → sentBy 130 (setWith (quietly code entitled d k) rest ds n)
-    ≡ replicate 9 []
-    ++ ((delivered ds code (endOf 3 k) ++ [])
-    ∷ replicate 119 []
-    ++ ((delivered ds code (freedSends (listenersOf ds n (quietly code entitled d k)) (quietly code entitled d k)) ++ []) ∷ []))
-unfolding quietly sentBy onTick sendsOf delivered happens tick tickIdle tickQuiet tickRelease
-ticking code entitled d n k rest ds = refl
+-- as 01 has it: what two of the ticks write, and the rest nothing
+abbrev inWords : List ℕ → List ℕ → List Ticked
+inWords v w =
+    replicate 9 (tickedBy [] true true)
+    ++ (tickedBy v false true ∷ replicate 119 (tickedBy [] false true) ++ (tickedBy w false false ∷ []))
+
+ticking : (code entitled d n kind dir m base : ℕ) (source : Number) (rest : List Channel) (ds : List Desk)
+    → let k : Call = Open kind dir m base source in
+    byTicks 130 (setWith (quietly code entitled d k) rest ds n)
+    ≡ inWords (recordsOf ds (delivered ds code (endOf 3 k) ++ []))
+    (recordsOf ds (delivered ds code (freedSends (listenersOf ds n (quietly code entitled d k)) (quietly code entitled d k)) ++ []))
+unfolding quietly byTicks tickIn onTick sendsOf delivered recordsOf happens tick tickIdle tickQuiet tickRelease
+ticking code entitled d n kind dir m base source rest ds = refl
+
+ticked-open : (code entitled d n : ℕ) (k : Call) → isOpen k ≡ true → (rest : List Channel) (ds : List Desk)
+    → byTicks 130 (setWith (quietly code entitled d k) rest ds n)
+    ≡ inWords (recordsOf ds (delivered ds code (endOf 3 k)))
+    (recordsOf ds (delivered ds code (freedSends (listenersOf ds n (quietly code entitled d k)) (quietly code entitled d k))))
+ticked-open code entitled d n Closed o rest ds = absurd (false≢true o)
+ticked-open code entitled d n (Open kind dir m base source) o rest ds =
+    let q = quietly code entitled d (Open kind dir m base source) in
+    ticking code entitled d n kind dir m base source rest ds
+    ∙ rw (append-nil (delivered ds code (endOf 3 (Open kind dir m base source))), append-nil (delivered ds code (freedSends (listenersOf ds n q) q)))
 
 -- ---- an accepted press off on the one channel
 
@@ -113,32 +138,38 @@ let-go : (c : Channel) (rest : List Channel) (ds : List Desk) (n d : ℕ) (e : L
 unfolding pick accepted onChannel placeOf happens pressOff quietly
 let-go c rest ds n d e x h a k o m = rw (k, o, m, h, a)
 
--- the bytes of the ticks, put into words
-in-words : (ds : List Desk) (v w : List Delivery)
-    → map (recordsOf ds) (replicate 9 [] ++ ((v ++ []) ∷ replicate 119 [] ++ ((w ++ []) ∷ [])))
-    ≡ replicate 9 [] ++ (recordsOf ds v ∷ replicate 119 [] ++ (recordsOf ds w ∷ []))
-unfolding recordsOf
-in-words ds v w = rw (append-nil v, append-nil w)
+-- the channel was pressed: row 15
+was-pressed : (c : Channel) (rest : List Channel) (ds : List Desk) (n : ℕ) (e : List ℕ) (x : Entry) → x .kind ≡ 2 → x .on ≡ 0
+    → eqb (c .code) (x .channel) ≡ true → refusalOf (setWith c rest ds n) e x ≡ 0 → isPressed c ≡ true
+unfolding placeOf
+was-pressed c rest ds n e x k o m z =
+    let off : eqb 0 (cond (isPressed c) 1 0) ≡ false = rw (k, o, m) at (no-row (setWith c rest ds n) e x z .row15-fails) in
+    by-test (isPressed c) (λ p. p) (λ p. absurd (false≢true (sym (rw p at off))))
 
-pub ticked : Ticked
+-- and so a call was open
+press-open : (f : List Item) (c : Channel) (rest : List Channel) → after newSet f .channels ≡ c ∷ rest → isPressed c ≡ true → isOpen (c .call) ≡ true
+press-open f c rest cs p =
+    let ok : Each ChannelOk (c ∷ rest) = rw cs at (always-ok f .channels-ok) in
+    ok .0 .timed .pressed-open p
+
+pub ends-at : EndsAt 10 130
 unfolding quietly
-ticked s c rest d one cs h a i k o z rooms l all =
+ends-at f c rest d one cs h a i k o z bs l all =
+    let s = after newSet f in
     let x = readEntry (i .entry) in
-    let f = accepted-after s i z in
-    let p = press-planned s (i .entry) x k (f .0) in
+    let r = accepted-after s i z in
+    let p = press-planned s (i .entry) x k (r .0) in
     let s′ = setWith c rest (s .desks) (s .size .desks) in
     let e : s ≡ s′ = λ j. record { channels = cs j; desks = s .desks; size = record { desks = s .size .desks; channels = one j }; planned = p .0 j } in
     let m = one-place c rest (s .desks) (s .size .desks) (x .channel) (ap (λ (t : LineSet). hasChannel t (x .channel)) (sym e) ∙ p .1) in
+    let pressed = was-pressed c rest (s .desks) (s .size .desks) (i .entry) x k o m (ap (λ (t : LineSet). refusalOf t (i .entry) x) (sym e) ∙ r .0) in
     let q = quietly (c .code) (c .entitled) d (c .call) in
     let s₁ = setWith q rest (s .desks) (s .size .desks) in
     let g : stepBy s i .after ≡ s₁ =
-    f .1 ∙ ap (λ (t : LineSet). accepted t (i .entry) x .after) e ∙ let-go c rest (s .desks) (s .size .desks) d (i .entry) x h a k o m in
+    r .1 ∙ ap (λ (t : LineSet). accepted t (i .entry) x .after) e ∙ let-go c rest (s .desks) (s .size .desks) d (i .entry) x h a k o m in
     let w : freedSends (listenersOf (s .desks) (s .size .desks) q) q ≡ freedSends (listenersOf (s .desks) (s .size .desks) c) c = rw h in
-    ap (λ (t : LineSet). map (λ (y : Outcome). y .bytes) (run t (ticks rooms))) g
-    ∙ bytes-of rooms s₁ refl (rw g at all)
-    ∙ ap (λ (j : ℕ). map (recordsOf (s .desks)) (sentBy j s₁)) l
-    ∙ ap (map (recordsOf (s .desks))) (ticking (c .code) (c .entitled) d (s .size .desks) (c .call) rest (s .desks))
-    ∙ in-words (s .desks) (delivered (s .desks) (c .code) (endOf 3 (c .call))) (delivered (s .desks) (c .code) (freedSends (listenersOf (s .desks) (s .size .desks) q) q))
-    ∙ ap
-    (λ (n : List Send). replicate 9 [] ++ (recordsOf (s .desks) (delivered (s .desks) (c .code) (endOf 3 (c .call))) ∷ replicate 119 [] ++ (recordsOf (s .desks) (delivered (s .desks) (c .code) n) ∷ [])))
-    w
+    ap (λ (t : LineSet). map tickOf (run t (ticksWith bs))) g
+    ∙ ticks-are bs s₁ refl (rw g at all)
+    ∙ ap (λ (j : ℕ). byTicks j s₁) l
+    ∙ ticked-open (c .code) (c .entitled) d (s .size .desks) (c .call) (press-open f c rest cs pressed) rest (s .desks)
+    ∙ ap (λ (n : List Send). inWords (endBytes s c) (recordsOf (s .desks) (delivered (s .desks) (c .code) n))) w

@@ -9,7 +9,6 @@ use lib.ListN.{getD}
 use Rattle.numerals.specs.Digits.{digitsOf, allDigits, valueFrom}
 use Rattle.fields.specs.Fields.{bodyOk, valuesIn, bytesOf}
 use Rattle.telegram.specs.Telegram.{headerOk, readTelegram, telegramOf}
-use Rattle.telegram.specs.Promises.{spelled}
 use Rattle.channel.specs.State.{isIn}
 use Rattle.line_rules.specs.Rules.{capture, mobileOn, happens}
 use Rattle.set_state.specs.State.{placeOf, runningFrom}
@@ -19,8 +18,10 @@ use Rattle.set_rules.specs.Plan.{desksOk, desksIn, hasNumber, distinct, 
 use Rattle.set_rules.specs.Refusals.{firstOf, refusalOf}
 use Rattle.set_rules.specs.Records.{delivered, toEach, recordsOf, spaceOf}
 use Rattle.set_rules.specs.SetRules.{onChannel, accepted}
-use Rattle.set_rules.specs.Feeds.{Item, outcomeOf, stepOf, ofDesk, views, Seen}
-use Rattle.set_rules.specs.Promises.{entryOf, Speaks, same, talks, ended, more, item, Renumbered}
+use Rattle.set_rules.specs.Feeds.{Item, outcomeOf, stepOf, cutUp, ofDesk, views, Seen}
+use Rattle.set_rules.specs.Spelling.{spelled, entryOf, lent}
+use Rattle.set_rules.specs.Promises.{same, talks, ended, more, Renumbered}
+use Rattle.set_rules.specs.Witness.{Speaks}
 
 renumbered : Renumbered (entryOf 4 (7 ∷ 3 ∷ digitsOf 8 990007)) (entryOf 4 (7 ∷ 3 ∷ digitsOf 8 990008))
 unfolding digitsOf allDigits valueFrom
@@ -31,14 +32,14 @@ other p = omega arith
 
 -- the last byte of the seventh entry
 last : List Item → ℕ
-last f = getD (getD f 6 (item []) .entry) 13 0
+last f = getD (getD f 6 (lent []) .entry) 13 0
 
 -- the last digit of the number in the 550464 that the seventh entry sends: behind a contact of 8 bytes and 5, 16 and 14 more
 learnt : List Seen → ℕ
 learnt vs = getD (getD vs 6 (record { refusal = 0; count = 0; records = [] }) .records) 43 0
 
 pub witness : Speaks
-unfolding last learnt spelled onesIn digitsOf allDigits valueFrom bodyOk valuesIn bytesOf headerOk readTelegram telegramOf isIn capture mobileOn happens placeOf runningFrom readEntry desksOk desksIn hasNumber distinct channelsOk channelsIn planOk setOf firstOf refusalOf delivered toEach recordsOf spaceOf onChannel pick accepted outcomeOf stepOf ofDesk views
+unfolding last learnt spelled onesIn digitsOf allDigits valueFrom bodyOk valuesIn bytesOf headerOk readTelegram telegramOf isIn capture mobileOn happens placeOf runningFrom readEntry desksOk desksIn hasNumber distinct channelsOk channelsIn planOk setOf firstOf refusalOf delivered toEach recordsOf spaceOf onChannel pick accepted outcomeOf stepOf cutUp ofDesk views
 witness = record {
   related =
       more (same refl) refl

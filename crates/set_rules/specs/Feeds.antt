@@ -57,13 +57,13 @@ outcomeOf s e x room = cond (eqb (refusalOf s e x) 0) (emit s (accepted s e x) r
 unfoldable pub stepOf : LineSet → List ℕ → ℕ → Outcome
 stepOf s e room = outcomeOf s e (readEntry e) room
 
--- an entry with the length of its buffer
+-- an entry and the buffer lent with it, "whatever that held"
 pub record Item : Type 0 where
   pub entry : List ℕ
-  pub room : ℕ
+  pub buffer : List ℕ
 
 abbrev pub stepBy : LineSet → Item → Outcome
-stepBy s i = stepOf s (i .entry) (i .room)
+stepBy s i = stepOf s (i .entry) (length (i .buffer))
 
 -- "Each entry gets the set that the one before left"
 unfoldable pub run : LineSet → List Item → List Outcome
@@ -76,15 +76,26 @@ after s (i ∷ is) = after (stepBy s i .after) is
 
 -- ---- what a desk receives
 
--- "it receives the records with that desk byte among the bytes written": the first k records at most
-unfoldable pub ofDesk : ℕ → ℕ → List ℕ → List ℕ
-ofDesk B zero bs = []
-ofDesk B (suc k) [] = []
-ofDesk B (suc k) (b ∷ bs) =
-    cond (eqb (getD (b ∷ bs) 3 256) B) (take (word (b ∷ bs) 0 + 2) (b ∷ bs)) [] ++ ofDesk B k (drop (word (b ∷ bs) 0 + 2) (b ∷ bs))
+-- "the bytes written": those of the buffer after an entry, up to the count
+abbrev pub writtenIn : Item → Outcome → List ℕ
+writtenIn i o = take (o .count) (over (o .bytes) (i .buffer))
+
+-- the records among bytes, each behind its length: the first k at most
+unfoldable pub cutUp : ℕ → List ℕ → List (List ℕ)
+cutUp zero bs = []
+cutUp (suc k) [] = []
+cutUp (suc k) (b ∷ bs) = take (word (b ∷ bs) 0 + 2) (b ∷ bs) ∷ cutUp k (drop (word (b ∷ bs) 0 + 2) (b ∷ bs))
+
+abbrev pub recordsIn : List ℕ → List (List ℕ)
+recordsIn bs = cutUp (length bs) bs
+
+-- "it receives the records with that desk byte among the bytes written"
+unfoldable pub ofDesk : ℕ → List (List ℕ) → List ℕ
+ofDesk B [] = []
+ofDesk B (r ∷ rs) = cond (eqb (getD r 3 256) B) r [] ++ ofDesk B rs
 
 abbrev pub received : ℕ → List ℕ → List ℕ
-received B bs = ofDesk B (length bs) bs
+received B bs = ofDesk B (recordsIn bs)
 
 -- what B gets of a feed: of each entry its refusal, its count and B's records
 pub record Seen : Type 0 where
@@ -92,9 +103,9 @@ pub record Seen : Type 0 where
   pub count : ℕ
   pub records : List ℕ
 
-abbrev pub seenOf : ℕ → Outcome → Seen
-seenOf B o = record { refusal = o .refusal; count = o .count; records = received B (o .bytes) }
+abbrev pub seenOf : ℕ → Item → Outcome → Seen
+seenOf B i o = record { refusal = o .refusal; count = o .count; records = received B (writtenIn i o) }
 
 unfoldable pub views : ℕ → LineSet → List Item → List Seen
 views B s [] = []
-views B s (i ∷ is) = seenOf B (stepBy s i) ∷ views B (stepBy s i .after) is
+views B s (i ∷ is) = seenOf B i (stepBy s i) ∷ views B (stepBy s i .after) is

@@ -4,4 +4,4 @@ pub use Rattle.telegram.proofs.RoundTrip.{reads-back, written-form, one
 pub use Rattle.telegram.proofs.SizeLaws.{length-telegram, size-most}
 pub use Rattle.telegram.proofs.HeaderLaws.{header-long}
 pub use Rattle.telegram.proofs.WriterNumbers.{writer-numbers}
-pub use Rattle.telegram.proofs.Marked.{marked}
+pub use Rattle.telegram.proofs.ReaderNumbers.{reader-numbers}
