@@ -2,15 +2,18 @@
 -- Assumes nothing.
 use mathlib.Core.Path.{refl}
 use mathlib.Core.Bool.{false≢true}
-use Rattle.line_rules.specs.Promises.{FreeIsOk, StaysOk, SaysInRange, HideTwice, PresentHide, HappensHide, NumberHidden}
+use native.Mathlib.Omega.{arith}
+use Rattle.line_rules.specs.Promises.{FreeIsOk, StaysOk, SaysInRange, FreeIsAmong, StaysAmong, SaysForDesk, OnlyOther, HideTwice, PresentHide, HappensHide, NumberHidden}
 use Rattle.line_rules.proofs.Ranges as ranges
 use Rattle.line_rules.proofs.Timers.{happens-timed}
+use Rattle.line_rules.proofs.Masks as masks
+use Rattle.line_rules.proofs.Among as among
 use Rattle.line_rules.proofs.Veil as left
 
 pub free-is-ok : FreeIsOk
 free-is-ok code entitled h = record {
   in-range = record { code-ok = h; call-ok = tt; arrival-ok = tt };
-  timed = record { quiet-runs = refl; release-runs = refl; presser-holds = λ p. absurd (false≢true p); pressed-open = λ p. absurd (false≢true p) };
+  timed = record { quiet-runs = refl; release-runs = refl; quiet-most = omega arith; release-most = omega arith; presser-holds = λ p. absurd (false≢true p); pressed-open = λ p. absurd (false≢true p) };
 }
 
 pub stays-ok : StaysOk
@@ -20,6 +23,18 @@ stays-ok v e c h ok =
 
 pub says-in-range : SaysInRange
 says-in-range = ranges.says-in-range
+
+pub free-is-among : FreeIsAmong
+free-is-among = among.free-is-among
+
+pub stays-among : StaysAmong
+stays-among w v e c h g l ok a = among.happens-among w e c l (ok .timed) a v h g
+
+pub says-for-desk : SaysForDesk
+says-for-desk = among.says-for-desk
+
+pub only-other : OnlyOther
+only-other = masks.only-other
 
 pub hide-twice : HideTwice
 hide-twice = left.hide-twice

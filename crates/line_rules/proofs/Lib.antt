@@ -2,4 +2,6 @@ mod Veil
 mod Traps
 mod Ranges
 mod Timers
+mod Masks
+mod Among
 pub mod Kept

@@ -14,7 +14,7 @@ use Rattle.telegram.specs.Telegram.{num}
 use Rattle.telegram.specs.declared.message.Number.{Number}
 use Rattle.telegram.specs.declared.message.Message.the-variants.{CaptureState as State}
 use Rattle.channel.specs.State.{isHeld, heldBy, isPresent}
-use Rattle.line_rules.specs.Rules.{Step, step, happens, capture, captureAt, cut, release, pressOn, pressOff, mobileOn, mobileOff, tick, tickIdle, tickQuiet, tickRelease, freed, endTalk, endCall, isPressed, general, openedBy, openingSends, callSends, endOf, kindOf, pressOffSends, pressCall, mobileCall, mobileOffSends, freedSends, mobileRecipients}
+use Rattle.line_rules.specs.Rules.{Step, step, happens, capture, captureAt, cut, release, pressOn, pressOff, mobileOn, mobileOff, tick, tickIdle, tickQuiet, tickRelease, freed, endTalk, endCall, isPressed, openedBy, openingSends, callSends, endOf, kindOf, pressOffSends, pressCall, mobileCall, mobileOffSends, freedSends, mobileRecipients}
 use Rattle.line_rules.specs.Notices.{telegram}
 use Rattle.channel.specs.declared.state.Party.{Party}
 use Rattle.channel.specs.declared.state.Party.the-variants.{Nobody, By}
@@ -94,7 +94,7 @@ pub record Ranged (st : Step) : Type 0 where
 
 module _ (e : ℕ) (c : Channel) (ok : InRange c) where
   -- the type of the talk in a call
-  kind-ok : (k : Call) → CallOk k → kindOf k ≡ general
+  kind-ok : (k : Call) → CallOk k → kindOf k ≡ 1
   kind-ok Closed o = refl
   kind-ok (Open k d m b s) o = o .kind-is
 

@@ -1,14 +1,15 @@
--- The timers of a channel run exactly when they should, and a press is the holder's, whatever happens.
+-- The timers of a channel run exactly when they should and never above their lengths, and a press is the holder's, whatever happens.
 -- Assumes nothing.
-use Prim.Native.Nat.{ℕ, _-_}
+use Prim.Native.Nat.{ℕ, _-_, _≤_}
 use mathlib.Core.Bool.{Bool, true, false, _&&_, not, cond, false≢true}
 use mathlib.Core.Path.{_≡_, refl, sym, ap, _∙_}
 use native.Mathlib.Omega.{arith}
 use lib.Dec.{leb, ltb}
 use borrow.Author.Tests.{leb-false, lt-ltb}
+use Rattle.laws.proofs.Tests.{either}
 use Rattle.telegram.specs.declared.message.Number.{Number}
-use Rattle.channel.specs.State.{only, isHeld, heldBy, isPresent}
-use Rattle.line_rules.specs.Rules.{Step, happens, capture, captureAt, cut, release, pressOn, pressOff, mobileOn, mobileOff, tick, tickIdle, tickQuiet, tickRelease, freed, endTalk, endCall, isOpen, isPressed, openedBy, mobileRecipients}
+use Rattle.channel.specs.State.{isHeld, heldBy, isPresent}
+use Rattle.line_rules.specs.Rules.{Step, happens, capture, captureAt, cut, release, pressOn, pressOff, mobileOn, mobileOff, tick, tickIdle, tickQuiet, tickRelease, freed, endTalk, endCall, quietTime, releaseTime, isOpen, isPressed, openedBy, pressCall, mobileCall, mobileRecipients}
 use Rattle.line_rules.specs.Invariant.{Timed, Fits}
 use Rattle.channel.specs.declared.state.Party.{Party}
 use Rattle.channel.specs.declared.state.Party.the-variants.{Nobody, By}
@@ -18,13 +19,13 @@ use Rattle.channel.specs.declared.state.Channel.{Channel}
 use Rattle.channel.specs.declared.state.Event.{Event}
 use Rattle.channel.specs.declared.state.Event.the-variants.{Capture, Release, Cut, PressOn, PressOff, MobileOn, MobileOff, Tick, EndTalk, EndCall}
 
-either : (t : Bool) (a b : Step) → (t ≡ true → Timed (a .next)) → (t ≡ false → Timed (b .next)) → Timed (cond t a b .next)
-either true a b p q = p refl
-either false a b p q = q refl
+by-step : (t : Bool) (a b : Step) → (t ≡ true → Timed (a .next)) → (t ≡ false → Timed (b .next)) → Timed (cond t a b .next)
+by-step true a b p q = p refl
+by-step false a b p q = q refl
 
-opened : (k : Call) (kd d m b : ℕ) (n : Number) → isOpen (openedBy k (Open kd d m b n)) ≡ true
-opened Closed kd d m b n = refl
-opened (Open k′ d′ m′ b′ s′) kd d m b n = refl
+opened : (k new : Call) → isOpen new ≡ true → isOpen (openedBy k new) ≡ true
+opened Closed new h = h
+opened (Open k d m b s) new h = refl
 
 never : {A : Type 0} → _≡_ {A = Bool} false true → A
 never e = absurd (false≢true e)
@@ -36,7 +37,14 @@ module _ (e : ℕ) (c : Channel) (ok : Timed c) where
 
   captureAt-timed : (h : Party) (d : ℕ) → c .holder ≡ h → Timed (captureAt h e d c .next)
   captureAt-timed Nobody d q =
-      record { quiet-runs = ok .quiet-runs; release-runs = refl; presser-holds = λ p. never (sym (ap isHeld q) ∙ holds p); pressed-open = ok .pressed-open }
+      record {
+        quiet-runs = ok .quiet-runs;
+        release-runs = refl;
+        quiet-most = ok .quiet-most;
+        release-most = omega arith;
+        presser-holds = λ p. never (sym (ap isHeld q) ∙ holds p);
+        pressed-open = ok .pressed-open;
+      }
   captureAt-timed (By h) d q = ok
 
   capture-timed : (d : ℕ) → Timed (capture e d c .next)
@@ -45,36 +53,52 @@ module _ (e : ℕ) (c : Channel) (ok : Timed c) where
 
   cut-timed : Timed (cut e c .next)
   unfolding cut
-  cut-timed = record { quiet-runs = refl; release-runs = refl; presser-holds = never; pressed-open = never }
+  cut-timed = record { quiet-runs = refl; release-runs = refl; quiet-most = omega arith; release-most = omega arith; presser-holds = never; pressed-open = never }
 
   release-timed : (d : ℕ) → Timed (release e d c .next)
   unfolding release
-  release-timed d = either (heldBy d (c .holder)) _ _ (λ e. cut-timed) (λ e. ok)
+  release-timed d = by-step (heldBy d (c .holder)) _ _ (λ e. cut-timed) (λ e. ok)
 
   pressOn-timed : (d : ℕ) (n : Number) → c .holder ≡ By d → Timed (pressOn d n c .next)
   unfolding pressOn
   pressOn-timed d n h =
-      let o = opened (c .call) 1 1 (only d) 999 n in
-      record { quiet-runs = sym (rw o refl); release-runs = sym (ap isHeld h); presser-holds = λ p. sym h; pressed-open = λ p. o }
+      let o = opened (c .call) (pressCall d n) refl in
+      record {
+        quiet-runs = sym (rw o refl);
+        release-runs = sym (ap isHeld h);
+        quiet-most = omega arith;
+        release-most = omega arith;
+        presser-holds = λ p. sym h;
+        pressed-open = λ p. o;
+      }
 
-  let-go : (p a : Bool) → isPressed c ≡ true → isPresent (c .arrival) ≡ a
-      → ltb 0 (cond a (c .quiet) 10) ≡ (isOpen (c .call) && (true && not a))
-  let-go p true h e = ok .quiet-runs ∙ rw h refl
-  let-go p false h e = sym (rw (ok .pressed-open h) refl)
+  let-go : (a : Bool) → isPressed c ≡ true → isPresent (c .arrival) ≡ a
+      → ltb 0 (cond a (c .quiet) quietTime) ≡ (isOpen (c .call) && (true && not a))
+  let-go true h e = ok .quiet-runs ∙ rw h refl
+  let-go false h e = sym (rw (ok .pressed-open h) refl)
+
+  -- the quiet timer, as it was or started
+  quiet-low : (t : Bool) → cond t (c .quiet) quietTime ≤ 10
+  quiet-low t = either (λ q. q ≤ 10) t (c .quiet) quietTime (ok .quiet-most) (omega arith)
 
   pressOff-timed : isPressed c ≡ true → Timed (pressOff c .next)
   unfolding pressOff
   pressOff-timed h = record {
-    quiet-runs = let-go true (isPresent (c .arrival)) h refl;
+    quiet-runs = let-go (isPresent (c .arrival)) h refl;
     release-runs = sym (holds h);
+    quiet-most = quiet-low (isPresent (c .arrival));
+    release-most = omega arith;
     presser-holds = never;
     pressed-open = never;
   }
 
   -- the release timer after a mobile on or off
-  reset : (t : Bool) → isHeld (c .holder) ≡ t → ltb 0 (cond t 120 (c .release)) ≡ t
+  reset : (t : Bool) → isHeld (c .holder) ≡ t → ltb 0 (cond t releaseTime (c .release)) ≡ t
   reset true e = refl
   reset false e = ok .release-runs ∙ e
+
+  release-low : (t : Bool) → cond t releaseTime (c .release) ≤ 120
+  release-low t = either (λ r. r ≤ 120) t releaseTime (c .release) (omega arith) (ok .release-most)
 
   silent : (p : Bool) → false ≡ (not p && false)
   silent true = refl
@@ -83,24 +107,29 @@ module _ (e : ℕ) (c : Channel) (ok : Timed c) where
   mobileOn-timed : (b : ℕ) (n : Number) → Timed (mobileOn e b n c .next)
   unfolding mobileOn
   mobileOn-timed b n =
-      let o = opened (c .call) 1 2 (mobileRecipients (c .holder) e) b n in
+      let o = opened (c .call) (mobileCall (mobileRecipients (c .holder) e) b n) refl in
       record {
         quiet-runs = silent (isPressed c) ∙ sym (rw o refl);
         release-runs = reset (isHeld (c .holder)) refl;
+        quiet-most = omega arith;
+        release-most = release-low (isHeld (c .holder));
         presser-holds = ok .presser-holds;
         pressed-open = λ p. o;
       }
 
-  after-talk : (k p : Bool) → isOpen (c .call) ≡ k → isPressed c ≡ p → ltb 0 (cond k (cond p (c .quiet) 10) (c .quiet)) ≡ (k && (not p && true))
-  after-talk true true e h = ok .quiet-runs ∙ rw (e, h) refl
-  after-talk true false e h = refl
-  after-talk false p e h = ok .quiet-runs ∙ rw e refl
+  after-talk : (q : ℕ) → ltb 0 q ≡ true → (k p : Bool) → isOpen (c .call) ≡ k → isPressed c ≡ p
+      → ltb 0 (cond k (cond p (c .quiet) q) (c .quiet)) ≡ (k && (not p && true))
+  after-talk q r true true e h = ok .quiet-runs ∙ rw (e, h) refl
+  after-talk q r true false e h = r
+  after-talk q r false p e h = ok .quiet-runs ∙ rw e refl
 
   mobileOff-timed : Timed (mobileOff c .next)
   unfolding mobileOff
   mobileOff-timed = record {
-    quiet-runs = after-talk (isOpen (c .call)) (isPressed c) refl refl;
+    quiet-runs = after-talk _ refl (isOpen (c .call)) (isPressed c) refl refl;
     release-runs = reset (isHeld (c .holder)) refl;
+    quiet-most = either (λ q. q ≤ 10) (isOpen (c .call)) _ (c .quiet) (quiet-low (isPressed c)) (ok .quiet-most);
+    release-most = release-low (isHeld (c .holder));
     presser-holds = ok .presser-holds;
     pressed-open = ok .pressed-open;
   }
@@ -118,11 +147,20 @@ module _ (e : ℕ) (c : Channel) (ok : Timed c) where
   tickQuiet-timed : isPressed c ≡ false → Timed (tickQuiet c .next)
   unfolding tickQuiet
   tickQuiet-timed h =
-      either (leb (c .quiet) 1) _ _
-      (λ e. record { quiet-runs = refl; release-runs = ok .release-runs; presser-holds = off h; pressed-open = off h })
+      by-step (leb (c .quiet) 1) _ _
+      (λ e. record {
+        quiet-runs = refl;
+        release-runs = ok .release-runs;
+        quiet-most = omega arith;
+        release-most = ok .release-most;
+        presser-holds = off h;
+        pressed-open = off h;
+      })
       (λ e. record {
         quiet-runs = less (c .quiet) e ∙ sym (runs (c .quiet) e) ∙ ok .quiet-runs;
         release-runs = ok .release-runs;
+        quiet-most = omega (arith, ok .quiet-most);
+        release-most = ok .release-most;
         presser-holds = ok .presser-holds;
         pressed-open = ok .pressed-open;
       })
@@ -130,11 +168,20 @@ module _ (e : ℕ) (c : Channel) (ok : Timed c) where
   tickRelease-timed : isPressed c ≡ false → Timed (tickRelease e c .next)
   unfolding tickRelease
   tickRelease-timed h =
-      either (leb (c .release) 1) _ _
-      (λ e. record { quiet-runs = ok .quiet-runs; release-runs = refl; presser-holds = off h; pressed-open = off h })
+      by-step (leb (c .release) 1) _ _
+      (λ e. record {
+        quiet-runs = ok .quiet-runs;
+        release-runs = refl;
+        quiet-most = ok .quiet-most;
+        release-most = omega arith;
+        presser-holds = off h;
+        pressed-open = off h;
+      })
       (λ e. record {
         quiet-runs = ok .quiet-runs;
         release-runs = less (c .release) e ∙ sym (runs (c .release) e) ∙ ok .release-runs;
+        quiet-most = ok .quiet-most;
+        release-most = omega (arith, ok .release-most);
         presser-holds = ok .presser-holds;
         pressed-open = ok .pressed-open;
       })
@@ -142,14 +189,14 @@ module _ (e : ℕ) (c : Channel) (ok : Timed c) where
   tickIdle-timed : isPressed c ≡ false → Timed (tickIdle e c .next)
   unfolding tickIdle
   tickIdle-timed h =
-      either (ltb 0 (c .quiet)) _ _ (λ e. tickQuiet-timed h) (λ e. either (isHeld (c .holder)) _ _ (λ g. tickRelease-timed h) (λ g. ok))
+      by-step (ltb 0 (c .quiet)) _ _ (λ e. tickQuiet-timed h) (λ e. by-step (isHeld (c .holder)) _ _ (λ g. tickRelease-timed h) (λ g. ok))
 
   tick-timed : Timed (tick e c .next)
   unfolding tick
-  tick-timed = either (isPressed c) _ _ (λ e. ok) (λ e. either (isPresent (c .arrival)) _ _ (λ g. ok) (λ g. tickIdle-timed e))
+  tick-timed = by-step (isPressed c) _ _ (λ e. ok) (λ e. by-step (isPresent (c .arrival)) _ _ (λ g. ok) (λ g. tickIdle-timed e))
 
   freed-timed : Timed (freed c)
-  freed-timed = record { quiet-runs = refl; release-runs = refl; presser-holds = never; pressed-open = never }
+  freed-timed = record { quiet-runs = refl; release-runs = refl; quiet-most = omega arith; release-most = omega arith; presser-holds = never; pressed-open = never }
 
   pub happens-timed : (v : Event) → Fits v c → Timed (happens v e c .next)
   unfolding happens endTalk endCall

@@ -20,7 +20,7 @@ use Rattle.channel.specs.declared.state.Event.the-variants.{Capture, Release, C
 use Rattle.channel.specs.declared.state.Notice.{Notice}
 use Rattle.channel.specs.declared.state.Notice.the-variants.{PressAnswer, Incoming, BaseArrival, Call as CallNotice, PressNotice, CallerNotice, CaptureReply, CaptureState}
 use Rattle.channel.specs.declared.state.Send.{Send}
-use Rattle.line_rules.specs.Rules.{Step, general, isOpen, isPressed}
+use Rattle.line_rules.specs.Rules.{Step, isOpen, isPressed}
 use Rattle.line_rules.specs.Notices.{Content, telegram, contact}
 
 -- ---- numbers and codes in range
@@ -35,7 +35,7 @@ BaseOk b = (leb b 29 || between 997 999 b) ≡ true
 
 -- a call's type, direction, base and source; "Type is always 1"
 pub record TalkOk (kind direction base : ℕ) (n : Number) : Type 0 where
-  pub kind-is : kind ≡ general
+  pub kind-is : kind ≡ 1
   pub direction-low : 1 ≤ direction
   pub direction-high : direction ≤ 2
   pub base-ok : BaseOk base
@@ -61,6 +61,9 @@ pub record Timed (c : Channel) : Type 0 where
   pub quiet-runs : ltb 0 (c .quiet) ≡ (isOpen (c .call) && (not (isPressed c) && not (isPresent (c .arrival))))
   -- the release timer runs exactly when the channel is held
   pub release-runs : ltb 0 (c .release) ≡ isHeld (c .holder)
+  -- neither timer is above its length
+  pub quiet-most : c .quiet ≤ 10
+  pub release-most : c .release ≤ 120
   -- who presses is the holder, and a call is open
   pub presser-holds : isPressed c ≡ true → c .presser ≡ c .holder
   pub pressed-open : isPressed c ≡ true → isOpen (c .call) ≡ true
@@ -92,7 +95,7 @@ NoticeOk (PressAnswer on) = Unit {0}
 NoticeOk (Incoming on) = Unit {0}
 NoticeOk (BaseArrival k b n o) = TalkOk k 2 b n × (o ≤ 1)
 NoticeOk (CallNotice k d b s t r) = TalkOk k d b s × (t ≤ 1) × (r ≤ 3)
-NoticeOk (PressNotice k o) = (k ≡ general) × (o ≤ 1)
+NoticeOk (PressNotice k o) = (k ≡ 1) × (o ≤ 1)
 NoticeOk (CallerNotice k b n o) = TalkOk k 2 b n × (o ≤ 1)
 NoticeOk (CaptureReply r) = r ≤ 1
 NoticeOk (CaptureState h s) = s ≤ 1

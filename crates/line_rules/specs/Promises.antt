@@ -15,6 +15,7 @@ use Rattle.line_rules.specs.Rules.{quietTime, releaseTime, cut, pressOff
 use Rattle.line_rules.specs.Notices.{contentFor}
 use Rattle.line_rules.specs.Veil.{hide, hideArrival, hideStep}
 use Rattle.line_rules.specs.Invariant.{NumberOk, ChannelOk, Fits, NoticeOk, StepOk, ContentOk}
+use Rattle.line_rules.specs.Among.{Around, numbersIn, AllListen, ForDesk, Among, FitsAmong, NoticeTold, StepAmong}
 use Rattle.channel.specs.declared.state.Party.the-variants.{Nobody, By}
 use Rattle.channel.specs.declared.state.Call.{Call}
 use Rattle.channel.specs.declared.state.Arrival.{Arrival}
@@ -116,6 +117,29 @@ StaysOk = (v : Event) (e : ℕ) (c : Channel) → Fits v c → ChannelOk c → S
 -- A notice in range is a telegram in range to every desk (`Kept.says-in-range`).
 abbrev pub SaysInRange : Type 0
 SaysInRange = (desk : ℕ) (own : Number) (ch : ℕ) (n : Notice) → NumberOk own → ch ≤ 99 → NoticeOk n → ContentOk (contentFor desk own ch n)
+
+-- ---- Who is told, and of which numbers
+
+-- A free channel of a plan is so among any desks (`Kept.free-is-among`).
+abbrev pub FreeIsAmong : Type 1
+FreeIsAmong = (w : Around) (code entitled : ℕ) → Among w (freeChannel code entitled)
+
+-- Only listening desks are told of a channel, and each number only to desks that it is for; and it stays so, whatever happens
+-- (`Kept.stays-among`).
+abbrev pub StaysAmong : Type 1
+StaysAmong =
+    (w : Around) (v : Event) (e : ℕ) (c : Channel) → Fits v c → FitsAmong w v c → AllListen w c e → ChannelOk c → Among w c
+    → StepAmong w c (happens v e c)
+
+-- Each number in what a recipient is told is for it (`Kept.says-for-desk`).
+abbrev pub SaysForDesk : Type 1
+SaysForDesk =
+    (w : Around) (c : Channel) (m ch d : ℕ) (n : Notice) → NoticeTold w c m n → isIn d m ≡ true
+    → Each (ForDesk w d) (numbersIn (contentFor d (w .own d) ch n))
+
+-- A desk is not in the set of another (`Kept.only-other`).
+abbrev pub OnlyOther : Type 0
+OnlyOther = (B d : ℕ) → (d ≡ B → ⊥) → isIn B (only d) ≡ false
 
 -- ---- What a desk B may see: what happens on a channel goes by what is left of it when numbers are hidden from B (`Kept`)
 

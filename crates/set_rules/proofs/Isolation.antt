@@ -1,21 +1,19 @@
 -- Demand 3, its first part: two feeds that differ only in numbers that B may not learn show B the same.
 -- Assumes nothing.
-use Prim.Native.Nat.{ℕ, zero, suc, _+_, _-_, _*_, _/_, _%_, _^_, _<_}
+use Prim.Native.Nat.{ℕ, _+_, _<_}
 use mathlib.Core.List.{List, [], _∷_, _++_, map, map-append}
 use mathlib.Core.Bool.{Bool, true, false, _&&_, cond}
 use mathlib.Core.Path.{_≡_, refl, sym, ap, _∙_}
 use native.Mathlib.Omega.{arith}
-use native.Mathlib.Nat.{pow-suc}
-use lib.Dec.{eqb, leb, ltb}
+use lib.Dec.{eqb, leb}
 use lib.ListN.{length, getD, take, drop, set, length-map, List·getD-map}
 use lib.Seq.{getD-take}
-use borrow.Author.Tests.{ne-eqb}
 use Rattle.laws.proofs.Lists.{take-map, drop-map, map-set}
 use Rattle.numerals.specs.declared.digits.Digits.{Digits}
 use Rattle.telegram.specs.declared.message.Number.{Number}
 use Rattle.telegram.specs.Telegram.{readTelegram}
 use Rattle.telegram.specs.declared.message.Reading.{Reading}
-use Rattle.channel.specs.State.{isIn, only}
+use Rattle.channel.specs.State.{isIn}
 use Rattle.line_rules.specs.Rules.{Step, happens, mobileRecipients}
 use Rattle.line_rules.specs.Notices.{contentFor}
 use Rattle.channel.specs.declared.state.Party.{Party}
@@ -27,7 +25,7 @@ use Rattle.channel.specs.declared.state.Notice.{Notice}
 use Rattle.channel.specs.declared.state.Notice.the-variants.{PressAnswer, Incoming, BaseArrival, Call, PressNotice, CallerNotice, CaptureReply, CaptureState}
 use Rattle.channel.specs.declared.state.Send.{Send}
 use Rattle.line_rules.specs.Veil.{veil, hide, hideNotice, hideSend, hideSends, hideStep}
-use Rattle.line_rules.proofs.Kept.{hide-twice, present-hide, happens-hide, number-hidden}
+use Rattle.line_rules.proofs.Kept.{only-other, hide-twice, present-hide, happens-hide, number-hidden}
 use Rattle.set_state.specs.State.{newSet, noChannel, ownOf, placeOf, placeIn, channelAt, listenersOf, withChannels}
 use Rattle.laws.specs.Table.{pick}
 use Rattle.set_state.specs.Bytes.{byte}
@@ -48,29 +46,6 @@ use Rattle.laws.proofs.Each.{_▹_}
 use Rattle.laws.proofs.Table.{pick-matched}
 use Rattle.set_rules.proofs.Answers.{written}
 use Rattle.set_rules.proofs.Received.{AllLike, space-like, received-like, like-append}
-
--- nobody is in the empty set
-none-in : (j : ℕ) → isIn j 0 ≡ false
-unfolding isIn
-none-in zero = refl
-none-in (suc j) = none-in j
-
--- a desk is not in the set of another
-power-other : (B d : ℕ) → (d ≡ B → ⊥) → isIn B (2 ^ d) ≡ false
-unfolding isIn
-power-other zero zero h = absurd (h refl)
-power-other zero (suc d) h = rw (pow-suc 2 d) (ne-eqb (2 ^ d * 2 % 2) 1 (omega arith))
-power-other (suc B) zero h = none-in B
-power-other (suc B) (suc d) h =
-    let e : 2 ^ suc d / 2 ≡ 2 ^ d = rw (pow-suc 2 d) (omega arith) in
-    rw e (power-other B d (λ p. h (ap suc p)))
-
-only-other : (B d : ℕ) → (d ≡ B → ⊥) → isIn B (only d) ≡ false
-only-other B d h = go (ltb d 8) refl
-  where
-    go : (t : Bool) → ltb d 8 ≡ t → isIn B (only d) ≡ false
-    go true k = rw k (power-other B d h)
-    go false k = rw k (none-in B)
 
 module _ (B : ℕ) where
   abbrev hides : List Channel → List Channel

@@ -171,7 +171,7 @@ not-read n c i k m q = let z : _≡_ {A = ℕ} 0 1 = cc in omega arith
 row-back : (r : Row) → RowLaw r → (c k : ℕ) (b : List ℕ) (m : Message) → readRow r c b ≡ Telegram k m → Back c (r .id) k b m
 row-back r law c k b m e =
     let vs = valuesIn (r .body) b in
-    let t = cond-taken (bodyOk (r .body) 0 0 b) (Telegram c (r .make vs)) (Refused 10 c (r .id)) e (not-read 10 c (r .id) k m) in
+    let t = cond-taken (bodyOk (r .body) 0 0 b) (Telegram c (r .make vs)) _ e (not-read _ _ _ k m) in
     let f : Telegram c (r .make vs) ≡ Telegram k m = t .1 in
     let j : r .make vs ≡ m = cc in
     let w = written-read (r .body) 0 0 b (t .0) in
@@ -257,8 +257,8 @@ unfolding readTelegram telegramOf
 written-form s c m e =
     let n = nth (heading s) 1 in
     let i = valueOf (take 6 (drop 10 s)) in
-    let t = cond-taken (headerOk s) (readIdentified n s) (Refused 8 0 0) e (not-read 8 0 0 c m) in
-    let u = cond-taken (allDigits (take 6 (drop 10 s))) (readIn table n i (drop 16 s)) (Refused 9 n 0) (t .1) (not-read 9 n 0 c m) in
+    let t = cond-taken (headerOk s) (readIdentified n s) _ e (not-read _ _ _ c m) in
+    let u = cond-taken (allDigits (take 6 (drop 10 s))) (readIn table n i (drop 16 s)) _ (t .1) (not-read _ _ _ c m) in
     let a = table-back table laws n i c (drop 16 s) m (u .1) in
     let r = headed-read s (t .0) (u .0) in
     let k : c ≤ 1023 = rw (a .code-is) at (r .1) in
