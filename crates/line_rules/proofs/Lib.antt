@@ -4,4 +4,6 @@ mod Ranges
 mod Timers
 mod Masks
 mod Among
+mod Holding
+mod Turns
 pub mod Kept

@@ -14,6 +14,7 @@ use Rattle.channel.specs.State.{only, isIn, freeChannel, isPresent, holderPlace
 use Rattle.line_rules.specs.Rules.{quietTime, releaseTime, cut, pressOff, mobileOn, mobileOff, tick, endOf, freedSends, mobileRecipients, happens}
 use Rattle.line_rules.specs.Notices.{contentFor}
 use Rattle.line_rules.specs.Veil.{hide, hideArrival, hideStep}
+use Rattle.line_rules.specs.Turns.{ordersTo, lasting, ByTurns, Begins}
 use Rattle.line_rules.specs.Invariant.{NumberOk, ChannelOk, Fits, NoticeOk, StepOk, ContentOk}
 use Rattle.line_rules.specs.Among.{Around, numbersIn, AllListen, ForDesk, Among, FitsAmong, NoticeTold, StepAmong}
 use Rattle.channel.specs.declared.state.Party.the-variants.{Nobody, By}
@@ -22,7 +23,7 @@ use Rattle.channel.specs.declared.state.Arrival.{Arrival}
 use Rattle.channel.specs.declared.state.Arrival.the-variants.{Absent, Present}
 use Rattle.channel.specs.declared.state.Channel.{Channel}
 use Rattle.channel.specs.declared.state.Event.{Event}
-use Rattle.channel.specs.declared.state.Event.the-variants.{Capture}
+use Rattle.channel.specs.declared.state.Event.the-variants.{Capture, Release, Cut, PressOn, PressOff, MobileOn, MobileOff, Tick, EndTalk, EndCall}
 use Rattle.channel.specs.declared.state.Notice.{Notice}
 use Rattle.channel.specs.declared.state.Notice.the-variants.{PressAnswer, Incoming, BaseArrival, Call as CallNotice, PressNotice, CallerNotice, CaptureReply, CaptureState}
 use Rattle.channel.specs.declared.state.Send.{Send}
@@ -157,3 +158,36 @@ abbrev pub NumberHidden : Type 0
 NumberHidden =
     (B e b : ℕ) (n n′ : Number) (c : Channel) → isIn B (mobileRecipients (c .holder) e) ≡ false
     → hideStep B (mobileOn e b n c) ≡ hideStep B (mobileOn e b n′ c)
+
+-- ---- Holdings
+
+-- what may end the holding of desk d on a channel: its release, a cut (the holder's, by row 14), its timer, a handover
+abbrev pub Ends : Event → Channel → ℕ → Type 0
+Ends (Capture d′) c d = ⊥
+Ends (Release d′) c d = d′ ≡ d
+Ends Cut c d = Unit {0}
+Ends (PressOn d′ n) c d = ⊥
+Ends PressOff c d = ⊥
+Ends (MobileOn b n) c d = ⊥
+Ends MobileOff c d = ⊥
+Ends Tick c d = c .release ≤ 1
+Ends EndTalk c d = Unit {0}
+Ends EndCall c d = Unit {0}
+
+-- A holding lasts unless one of these ends it (`Kept.holding-lasts`).
+abbrev pub HoldingLasts : Type 0
+HoldingLasts = (v : Event) (e : ℕ) (c : Channel) (d : ℕ) → c .holder ≡ By d → (happens v e c .next .holder ≡ By d) ⊎ Ends v c d
+
+-- ---- What was told is ended
+
+-- On every matter a desk is told start and end by turns, and of each end whose start it was told (`Kept.by-turns`).
+abbrev pub GoesByTurns : Type 0
+GoesByTurns =
+    (B x : ℕ) (v : Event) (e : ℕ) (c : Channel) → x ≤ 6 → Begins v c
+    → ByTurns (lasting B x c) (ordersTo B x (happens v e c .sends)) (lasting B x (happens v e c .next))
+
+-- After the two parts of a handover nothing lasts (`Kept.handover-ends`).
+abbrev pub HandoverEnds : Type 0
+HandoverEnds =
+    (B x : ℕ) (e : ℕ) (c : Channel) → x ≤ 6
+    → ByTurns (lasting B x c) (ordersTo B x (happens EndTalk e c .sends ++ happens EndCall e c .sends)) false
