@@ -167,8 +167,7 @@ written s i =
     let n : length (o .bytes) ≡ o .count = sym (counted s (i .entry) (length b)) in
     let l : length (over (o .bytes) b) ≡ length (o .bytes) + (length b - length (o .bytes)) =
     length-append (o .bytes) (drop (length (o .bytes)) b) ∙ ap (λ (k : ℕ). length (o .bytes) + k) (length-drop (length (o .bytes)) b) in
-    let f : o .count ≤ length b = fits s (i .entry) (length b) in
-    (
+    let f : o .count ≤ length b = fits s (i .entry) (length b) in (
       omega (arith, l, n, f),
       (
         take-at (o .bytes) (drop (length (o .bytes)) b) (o .count) n,

@@ -36,13 +36,13 @@ use Rattle.set_state.specs.Bytes.{byte, word}
 use Rattle.set_rules.specs.Entries.{readEntry, measured, bad, payload, payloadOk, sizeOk, telegramIn, planIn}
 use Rattle.set_rules.specs.Plan.{deskOk, desksOk, desksIn, channelsOk, channelsIn, deskCount, desksPart, channelCount, channelsPart, distinct, planOk, setOf}
 use Rattle.set_rules.specs.Refusals.{askedBy, askedIn, refusalOf}
-use Rattle.set_rules.specs.Records.{delivered}
+use Rattle.set_rules.specs.Records.{Delivery, delivered}
 use Rattle.set_rules.specs.SetRules.{Effect, telegramTo, sendsOf, onChannel, ticked, tickSends, endSends, onTick, onHandover, onPlan, onRequest, ways, timeTaken, answerTaken, numberIn, accepted}
 use Rattle.set_rules.specs.Feeds.{Item, stepBy, after}
 use Rattle.line_rules.specs.Invariant.{NumberOk, ChannelOk, Fits, SendOk, SendsOk, ContentOk}
 use Rattle.line_rules.proofs.Kept.{free-is-ok, stays-ok, says-in-range}
 use Rattle.set_rules.specs.Invariant.{DeskOk, SetOk}
-use Rattle.set_rules.specs.Promises.{Reads, AllRead, Readable, AlwaysOk}
+use Rattle.set_rules.specs.Promises.{Readable, AlwaysOk}
 use Rattle.set_state.specs.declared.state.Link.{Link}
 use Rattle.set_state.specs.declared.state.Desk.{Desk}
 use Rattle.set_state.specs.declared.state.LineSet.{LineSet}
@@ -77,6 +77,14 @@ no-channels : (n : ℕ) → Each ChannelOk (replicate n noChannel)
 no-channels n = each-same ChannelOk n noChannel no-channel
 
 -- ---- what is sent reads
+
+-- every telegram of a delivery reads, under its desk's code, as the message that the rule names
+abbrev pub Reads : List Desk → Delivery → Type 0
+Reads ds v =
+    (d : ℕ) (m : Message) → v .content d ≡ telegram m → readTelegram (telegramOf (getD ds d noDesk .code) m) ≡ Telegram (getD ds d noDesk .code) m
+
+abbrev pub AllRead : List Desk → List Delivery → Type 0
+AllRead ds = Each (Reads ds)
 
 content-reads : (code : ℕ) (x : Content) → code ≤ 1023 → ContentOk x → (m : Message) → x ≡ telegram m → readTelegram (telegramOf code m) ≡ Telegram code m
 content-reads code (telegram m′) h k m e =
@@ -346,7 +354,8 @@ new-ok = record { desks-ok = no-desks 4; channels-ok = no-channels 32 }
 pub always-ok : AlwaysOk
 always-ok f = feed-ok newSet f new-ok
 
-pub readable : Readable
-readable f i z =
+all-read-in : (f : List Item) (i : Item) → stepBy (after newSet f) i .refusal ≡ 0
+    → AllRead (accepted (after newSet f) (i .entry) (readEntry (i .entry)) .desks) (accepted (after newSet f) (i .entry) (readEntry (i .entry)) .sent)
+all-read-in f i z =
     let s = after newSet f in
     accepted-ok s (always-ok f) (i .entry) (readEntry (i .entry)) (asked-ok (i .entry)) (accepted-after s i z .0) .sent-ok

@@ -103,7 +103,7 @@ examples =
     ∷ writes untilHeld (pressEntry 1) (contactRecord 1 7 1 ++ (pressCallRecord 1 0 ++ pressRecord 1))
     -- a cut while pressed: the press-off records, 550473 end with reason 01, 550651
     ∷ writes (untilHeld ++ (pressEntry 1 ∷ [])) (entryOf 3 (0 ∷ 7 ∷ []))
-        (contactRecord 1 7 0 ++ (pressRecord 0 ++ (pressCallRecord 0 1 ++ stateRecord 0)))
+    (contactRecord 1 7 0 ++ (pressRecord 0 ++ (pressCallRecord 0 1 ++ stateRecord 0)))
     -- mobile on: incoming ON, 550464, 550473 start, 550477 up
     ∷ writes untilHeld mobileEntry (contactRecord 2 7 1 ++ (arrivalRecord 1 ++ (mobileCallRecord ++ mobileRecord 1)))
     -- mobile off: incoming OFF, 550464, 550477

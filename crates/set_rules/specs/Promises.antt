@@ -1,25 +1,33 @@
--- What is promised of the set, as statements about the definitions. `proofs/` proves each under the name given with it.
-use Prim.Native.Nat.{ℕ, _+_}
+-- What is promised of the set, as statements about the definitions. `proofs/` proves each under the name given with it. Two tables
+-- stand beside them: the cases marked (p) in `Marked.antt`, and worked examples in `Examples.antt`.
+use Prim.Native.Nat.{ℕ, _+_, _≤_, _<_}
 use mathlib.Core.List.{List, [], _∷_, _++_}
+use mathlib.Core.Bool.{true, false, cond}
+use mathlib.Core.Logic.{_⊎_}
 use mathlib.Core.Path.{_≡_}
 use lib.ListN.{length, take, drop, getD}
 use Rattle.laws.specs.Each.{Each}
-use Rattle.telegram.specs.Telegram.{readTelegram, telegramOf, over}
-use Rattle.telegram.specs.declared.message.Message.{Message}
-use Rattle.telegram.specs.declared.message.Reading.the-variants.{Telegram}
+use Rattle.telegram.specs.Telegram.{readTelegram, over}
+use Rattle.telegram.specs.declared.message.Number.{Number}
+use Rattle.line_rules.specs.Rules.{isPressed}
 use Rattle.line_rules.specs.Notices.{telegram}
+use Rattle.line_rules.specs.Among.{numbersIn, ForDesk}
+use Rattle.channel.specs.State.{isIn}
+use Rattle.channel.specs.declared.state.Arrival.the-variants.{Absent}
+use Rattle.channel.specs.declared.state.Event.the-variants.{Release}
 use Rattle.channel.specs.declared.state.Party.{Party}
 use Rattle.channel.specs.declared.state.Party.the-variants.{Nobody, By}
-use Rattle.set_state.specs.State.{newSet, noDesk, channelAt}
+use Rattle.set_state.specs.State.{newSet, noDesk, channelsOf, hasChannel, channelAt}
 use Rattle.set_state.specs.Bytes.{byte}
-use Rattle.set_rules.specs.Entries.{mobileIn, readEntry}
-use Rattle.set_rules.specs.Refusals.{isCaller}
-use Rattle.set_rules.specs.Records.{Delivery}
-use Rattle.set_rules.specs.SetRules.{accepted}
-use Rattle.set_rules.specs.Invariant.{SetOk}
+use Rattle.set_rules.specs.Entries.{mobileIn, readEntry, telegramIn}
+use Rattle.set_rules.specs.Refusals.{isCaller, askedIn}
+use Rattle.set_rules.specs.SetRules.{Effect, numberIn, accepted}
+use Rattle.set_rules.specs.Invariant.{SetOk, Shaped, Running, aroundOf, AllAmong}
 use Rattle.set_rules.specs.Feeds.{Outcome, Item, stepOf, stepBy, run, after, writtenIn, views}
-use Rattle.set_state.specs.declared.state.Desk.{Desk}
+use Rattle.set_rules.specs.Letters.{Letter, says, rings, unread, lettersIn, lettersOf, channelNamed}
+use Rattle.set_state.specs.declared.state.Entry.{Entry}
 use Rattle.set_state.specs.declared.state.LineSet.{LineSet}
+use Rattle.set_state.specs.declared.state.Request.the-variants.{OnChannel}
 
 -- 1. An answer with a refusal number other than 0 has count 0, the same set, and no byte written (`Answers.refused`).
 abbrev pub Refused : Type 0
@@ -85,23 +93,98 @@ Renewed =
     (f g : List Item) (h : Item) → readEntry (h .entry) .kind ≡ 8 → stepBy (after newSet f) h .refusal ≡ 0
     → run (after newSet (f ++ (h ∷ []))) g ≡ run newSet g
 
--- ---- 6. What is sent reads as meant (`Readable.readable`)
+-- ---- 6. In every state that a feed from a new set brings about:
 
--- every telegram of a delivery reads, under its desk's code, as the message that the rule names
-abbrev pub Reads : List Desk → Delivery → Type 0
-Reads ds v =
-    (d : ℕ) (m : Message) → v .content d ≡ telegram m → readTelegram (telegramOf (getD ds d noDesk .code) m) ≡ Telegram (getD ds d noDesk .code) m
+-- numbers and codes are in range, timers run exactly when they should and are within their lengths (`Readable.always-ok`);
+abbrev pub AlwaysOk : Type 0
+AlwaysOk = (f : List Item) → SetOk (after newSet f)
 
-abbrev pub AllRead : List Desk → List Delivery → Type 0
-AllRead ds = Each (Reads ds)
+-- the plan fits the arrays with fillers past it, entitled desks are in the plan, and channel codes rise strictly
+-- (`Shape.always-shaped`);
+abbrev pub AlwaysShaped : Type 0
+AlwaysShaped = (f : List Item) → Shaped (after newSet f)
 
--- In every state that a feed from a new set brings about, every telegram that an accepted entry sends reads, under its desk's
--- code, as the message that the rule names.
+-- every holder and everyone told of a call or of a mobile is a running entitled desk of the plan (`Told.always-among`). M is any
+-- property that every mobile's number of the feed has.
+abbrev pub Brings : (Number → Type 0) → Item → Type 0
+Brings M i = readEntry (i .entry) .kind ≡ 4 → M (numberIn (readEntry (i .entry) .number))
+
+abbrev pub AlwaysAmong : Type 1
+AlwaysAmong = (M : Number → Type 0) (f : List Item) → Each (Brings M) f → AllAmong M (after newSet f)
+
+-- 7. Nothing shows of what fills the arrays: two sets that feeds bring about, with the same desks and channels in the plan, are the
+-- same (`Shape.same-plan`).
+pub record SamePlan (s s′ : LineSet) : Type 0 where
+  pub planned : s .planned ≡ s′ .planned
+  pub size : s .size ≡ s′ .size
+  pub desks : take (s .size .desks) (s .desks) ≡ take (s′ .size .desks) (s′ .desks)
+  pub channels : channelsOf s ≡ channelsOf s′
+
+abbrev pub FillersNeverShow : Type 0
+FillersNeverShow = (f f′ : List Item) → SamePlan (after newSet f) (after newSet f′) → after newSet f ≡ after newSet f′
+
+-- 8. Every record among the bytes of a buffer is, under its desk's code, the telegram or contact that the rule names, and no other
+-- stands there (`Readable.readable`).
 abbrev pub Readable : Type 0
 Readable =
     (f : List Item) (i : Item) → stepBy (after newSet f) i .refusal ≡ 0
-    → AllRead (accepted (after newSet f) (i .entry) (readEntry (i .entry)) .desks) (accepted (after newSet f) (i .entry) (readEntry (i .entry)) .sent)
+    → let x : Effect = accepted (after newSet f) (i .entry) (readEntry (i .entry)) in
+    lettersIn (writtenIn i (stepBy (after newSet f) i)) ≡ lettersOf (x .desks) (x .sent)
 
--- In every such state numbers and codes are in range and timers run exactly when they should (`Readable.always-ok`).
-abbrev pub AlwaysOk : Type 0
-AlwaysOk = (f : List Item) → SetOk (after newSet f)
+-- ---- 9. Who is told, and of which numbers (`Told.told-right`)
+
+-- a running desk that is entitled to a channel
+abbrev pub Hears : LineSet → ℕ → ℕ → Type 0
+Hears s d ch = Running s d × (isIn d (channelAt s ch .entitled) ≡ true)
+
+-- A record to a desk of the plan, under its code. If it is about a channel, the desk is running and entitled to it. Every number in
+-- it is the none-number, the desk's own, or a mobile's.
+abbrev pub Right : LineSet → (Number → Type 0) → Letter → Type 0
+Right s M (says d c m) =
+    (d < s .size .desks)
+    × ((c ≡ getD (s .desks) d noDesk .code) × (Each (Hears s d) (channelNamed m) × Each (ForDesk (aroundOf s M) d) (numbersIn (telegram m))))
+Right s M (rings d k ch on) = (d < s .size .desks) × Hears s d ch
+Right s M unread = ⊥
+
+-- the set whose plan an entry goes by: a plan's own, if it is one that is accepted
+abbrev pub servedBy : LineSet → Outcome → LineSet
+servedBy s o = cond (s .planned) s (o .after)
+
+-- In every state that a feed brings about, every record among the bytes written is right. So no desk is told of a channel that it is
+-- not entitled to, and a desk's own number reaches no other desk, unless a mobile has it.
+abbrev pub ToldRight : Type 1
+ToldRight =
+    (M : Number → Type 0) (f : List Item) (i : Item) → Each (Brings M) f → Brings M i
+    → let o : Outcome = stepBy (after newSet f) i in
+    Each (Right (servedBy (after newSet f) o) M) (lettersIn (writtenIn i o))
+
+-- 10. 22,976 bytes are enough: with a buffer so long no entry is refused with 16, whatever the feed before (`Room.roomy`).
+abbrev pub Roomy : Type 0
+Roomy = (f : List Item) (i : Item) → 22976 ≤ length (i .buffer) → stepBy (after newSet f) i .refusal ≡ 16 → ⊥
+
+-- ---- 11. Holdings (`Holdings.holding-ends`)
+
+-- what ends the holding of desk d on channel ch: its release, its cut, the timer, a handover
+pub data Ends (s : LineSet) (e : List ℕ) (d ch : ℕ) : Type 0 where
+  released : (n : Number) → readEntry e .kind ≡ 1 → readEntry e .desk ≡ d
+      → askedIn d (readTelegram (telegramIn e)) ≡ OnChannel ch n (Release d) → Ends s e d ch
+  cut : readEntry e .kind ≡ 3 → readEntry e .desk ≡ d → readEntry e .channel ≡ ch → Ends s e d ch
+  timed-out : readEntry e .kind ≡ 6 → channelAt s ch .release ≡ 1 → Ends s e d ch
+  handed-over : readEntry e .kind ≡ 8 → Ends s e d ch
+
+-- A holding lasts, or its holder, its timer or a handover ends it.
+abbrev pub HoldingEnds : Type 0
+HoldingEnds =
+    (f : List Item) (i : Item) (ch d : ℕ) → hasChannel (after newSet f) ch ≡ true → channelAt (after newSet f) ch .holder ≡ By d
+    → (channelAt (stepBy (after newSet f) i .after) ch .holder ≡ By d) ⊎ Ends (after newSet f) (i .entry) d ch
+
+-- 12. What an accepted entry finds (`Holdings.finds`): a press or a cut is the holder's; a press on finds no press, and a mobile on no
+-- mobile.
+pub record Finds (s : LineSet) (x : Entry) : Type 0 where
+  pub press-held : x .kind ≡ 2 → channelAt s (x .channel) .holder ≡ By (x .desk)
+  pub cut-held : x .kind ≡ 3 → channelAt s (x .channel) .holder ≡ By (x .desk)
+  pub press-new : x .kind ≡ 2 → x .on ≡ 1 → isPressed (channelAt s (x .channel)) ≡ false
+  pub mobile-new : x .kind ≡ 4 → channelAt s (x .channel) .arrival ≡ Absent
+
+abbrev pub AcceptedFinds : Type 0
+AcceptedFinds = (s : LineSet) (i : Item) → stepBy s i .refusal ≡ 0 → Finds s (readEntry (i .entry))
