@@ -192,19 +192,26 @@ handed-over : (s : LineSet) (e : List ℕ) (x : Entry) → x .kind ≡ 8 → acc
 unfolding accepted pick onHandover
 handed-over s e x h = rw h
 
--- an accepted entry: no row of the table holds, and the set after is the rule's
-pub accepted-after : (s : LineSet) (i : Item) → stepBy s i .refusal ≡ 0
-    → (refusalOf s (i .entry) (readEntry (i .entry)) ≡ 0) × (stepBy s i .after ≡ accepted s (i .entry) (readEntry (i .entry)) .after)
+-- an accepted entry: no row of the table holds, and the set after and the bytes written are the rule's
+pub record Done (s : LineSet) (i : Item) : Type 0 where
+  pub no-refusal : refusalOf s (i .entry) (readEntry (i .entry)) ≡ 0
+  pub after-is : stepBy s i .after ≡ accepted s (i .entry) (readEntry (i .entry)) .after
+  pub bytes-are : stepBy s i .bytes ≡ recordsOf (accepted s (i .entry) (readEntry (i .entry)) .desks) (accepted s (i .entry) (readEntry (i .entry)) .sent)
+
+pub accepted-done : (s : LineSet) (i : Item) → stepBy s i .refusal ≡ 0 → Done s i
 unfolding outcomeOf stepOf
-accepted-after s i z =
+accepted-done s i z =
     go (eqb (refusalOf s (i .entry) (readEntry (i .entry))) 0) refl (leb (spaceOf (accepted s (i .entry) (readEntry (i .entry)) .sent)) (length (i .buffer))) refl
   where
     go : (t : Bool) → eqb (refusalOf s (i .entry) (readEntry (i .entry))) 0 ≡ t
-        → (u : Bool) → leb (spaceOf (accepted s (i .entry) (readEntry (i .entry)) .sent)) (length (i .buffer)) ≡ u
-        → (refusalOf s (i .entry) (readEntry (i .entry)) ≡ 0) × (stepBy s i .after ≡ accepted s (i .entry) (readEntry (i .entry)) .after)
-    go true k true l = (eqb-true _ 0 k, rw (k, l))
+        → (u : Bool) → leb (spaceOf (accepted s (i .entry) (readEntry (i .entry)) .sent)) (length (i .buffer)) ≡ u → Done s i
+    go true k true l = record { no-refusal = eqb-true _ 0 k; after-is = rw (k, l); bytes-are = rw (k, l) }
     go true k false l = absurd (let f : _≡_ {A = ℕ} 16 0 = rw (k, l) at z in omega arith)
     go false k u l = absurd (let f : refusalOf s (i .entry) (readEntry (i .entry)) ≡ 0 = rw k at z in false≢true (sym k ∙ eq-eqb _ 0 f))
+
+pub accepted-after : (s : LineSet) (i : Item) → stepBy s i .refusal ≡ 0
+    → (refusalOf s (i .entry) (readEntry (i .entry)) ≡ 0) × (stepBy s i .after ≡ accepted s (i .entry) (readEntry (i .entry)) .after)
+accepted-after s i z = let k = accepted-done s i z in (k .no-refusal, k .after-is)
 
 handover-after : (s : LineSet) (i : Item) → readEntry (i .entry) .kind ≡ 8 → stepBy s i .refusal ≡ 0 → stepBy s i .after ≡ newSet
 handover-after s i h z = accepted-after s i z .1 ∙ handed-over s (i .entry) (readEntry (i .entry)) h

@@ -1,7 +1,7 @@
 -- In every state that a feed brings about the set is as `SetOk` says, and every telegram that it sends reads as meant.
 -- Assumes nothing.
 use Prim.Native.Nat.{ℕ, zero, suc, _+_, _-_, _*_, _^_, _≤_, _<_}
-use mathlib.Core.List.{List, [], _∷_, map}
+use mathlib.Core.List.{List, [], _∷_, _++_, map, map-append}
 use mathlib.Core.Bool.{Bool, true, false, _&&_, not, cond, false≢true}
 use mathlib.Core.Path.{_≡_, refl, sym, ap, _∙_}
 use native.Mathlib.Omega.{arith}
@@ -22,7 +22,7 @@ use Rattle.telegram.specs.declared.message.Reading.{Reading}
 use Rattle.telegram.specs.declared.message.Reading.the-variants.{Telegram, Refused}
 use Rattle.numerals.proofs.Kept.{value-below}
 use Rattle.telegram.proofs.Kept.{reads-back}
-use Rattle.channel.specs.State.{only, firstDesks, heldBy}
+use Rattle.channel.specs.State.{only, firstDesks, heldBy, isIn}
 use Rattle.channel.specs.declared.state.Party.{Party}
 use Rattle.channel.specs.declared.state.Party.the-variants.{Nobody, By}
 use Rattle.line_rules.specs.Rules.{happens, isPressed}
@@ -36,12 +36,13 @@ use Rattle.set_state.specs.Bytes.{byte, word}
 use Rattle.set_rules.specs.Entries.{readEntry, measured, bad, payload, payloadOk, sizeOk, telegramIn, planIn}
 use Rattle.set_rules.specs.Plan.{deskOk, desksOk, desksIn, channelsOk, channelsIn, deskCount, desksPart, channelCount, channelsPart, distinct, planOk, setOf}
 use Rattle.set_rules.specs.Refusals.{askedBy, askedIn, refusalOf}
-use Rattle.set_rules.specs.Records.{Delivery, delivered}
+use Rattle.set_rules.specs.Records.{Delivery, delivered, recordFor}
 use Rattle.set_rules.specs.SetRules.{Effect, telegramTo, sendsOf, onChannel, ticked, tickSends, endSends, onTick, onHandover, onPlan, onRequest, ways, timeTaken, answerTaken, numberIn, accepted}
 use Rattle.set_rules.specs.Feeds.{Item, stepBy, after}
 use Rattle.line_rules.specs.Invariant.{NumberOk, ChannelOk, Fits, SendOk, SendsOk, ContentOk}
 use Rattle.line_rules.proofs.Kept.{free-is-ok, stays-ok, says-in-range}
 use Rattle.set_rules.specs.Invariant.{DeskOk, SetOk}
+use Rattle.set_rules.specs.Letters.{readRecord, lettersIn, letterFor, lettersTo, lettersOf}
 use Rattle.set_rules.specs.Promises.{Readable, AlwaysOk}
 use Rattle.set_state.specs.declared.state.Link.{Link}
 use Rattle.set_state.specs.declared.state.Desk.{Desk}
@@ -51,7 +52,8 @@ use Rattle.set_state.specs.declared.state.LinkRequest.the-variants.{TellsTime, 
 use Rattle.set_state.specs.declared.state.Request.{Request}
 use Rattle.set_state.specs.declared.state.Request.the-variants.{OfLink, OnChannel, Foreign}
 use Rattle.laws.proofs.Table.{pick-each}
-use Rattle.set_rules.proofs.Answers.{refused, accepted-after}
+use Rattle.set_rules.proofs.Answers.{refused, written, accepted-after, accepted-done}
+use Rattle.set_rules.proofs.Received.{toEachOne, eachOf, cut-records}
 use Rattle.set_rules.proofs.Rows.{no-row}
 
 -- a test that does not fail
@@ -354,8 +356,36 @@ new-ok = record { desks-ok = no-desks 4; channels-ok = no-channels 32 }
 pub always-ok : AlwaysOk
 always-ok f = feed-ok newSet f new-ok
 
-all-read-in : (f : List Item) (i : Item) → stepBy (after newSet f) i .refusal ≡ 0
-    → AllRead (accepted (after newSet f) (i .entry) (readEntry (i .entry)) .desks) (accepted (after newSet f) (i .entry) (readEntry (i .entry)) .sent)
-all-read-in f i z =
+-- ---- the records among the bytes written
+
+-- a record is read as the letter that was meant
+letter-read : (ds : List Desk) (d : ℕ) (x : Content)
+    → ((m : Message) → x ≡ telegram m → readTelegram (telegramOf (getD ds d noDesk .code) m) ≡ Telegram (getD ds d noDesk .code) m)
+    → readRecord (recordFor ds d x) ≡ letterFor ds d x
+letter-read ds d (telegram m) h = rw (h m refl)
+letter-read ds d (contact k ch on) h = refl
+
+each-read : (k d : ℕ) (ds : List Desk) (v : Delivery) → Reads ds v → map readRecord (toEachOne k d ds v) ≡ lettersTo k d ds v
+unfolding toEachOne lettersTo
+each-read zero d ds v h = refl
+each-read (suc k) d ds v h = go (isIn d (v .recipients)) (each-read k (suc d) ds v h)
+  where
+    go : (t : Bool) → map readRecord (toEachOne k (suc d) ds v) ≡ lettersTo k (suc d) ds v
+        → map readRecord (cond t (recordFor ds d (v .content d) ∷ []) [] ++ toEachOne k (suc d) ds v) ≡ cond t (letterFor ds d (v .content d) ∷ []) [] ++ lettersTo k (suc d) ds v
+    go true rest = rw (letter-read ds d (v .content d) (h d), rest)
+    go false rest = rest
+
+every-read : (ds : List Desk) (vs : List Delivery) → AllRead ds vs → map readRecord (eachOf ds vs) ≡ lettersOf ds vs
+unfolding eachOf lettersOf
+every-read ds [] h = refl
+every-read ds (v ∷ vs) h = map-append readRecord (toEachOne 8 0 ds v) (eachOf ds vs) ∙ rw (each-read 8 0 ds v (h .0), every-read ds vs (h .1))
+
+pub readable : Readable
+readable f i z =
     let s = after newSet f in
-    accepted-ok s (always-ok f) (i .entry) (readEntry (i .entry)) (asked-ok (i .entry)) (accepted-after s i z .0) .sent-ok
+    let k = accepted-done s i z in
+    let x = accepted s (i .entry) (readEntry (i .entry)) in
+    let o = accepted-ok s (always-ok f) (i .entry) (readEntry (i .entry)) (asked-ok (i .entry)) (k .no-refusal) in
+    ap lettersIn (written s i .1 .0 ∙ k .bytes-are)
+    ∙ ap (map readRecord) (cut-records (x .desks) (x .sent))
+    ∙ every-read (x .desks) (x .sent) (o .sent-ok)
