@@ -2,7 +2,7 @@
 -- Assumes nothing.
 use Prim.Native.Nat.{ℕ}
 use mathlib.Core.List.{List, [], _∷_, _++_}
-use mathlib.Core.Bool.{true}
+use mathlib.Core.Bool.{true, false, false≢true}
 use mathlib.Core.Logic.{inl, inr}
 use mathlib.Core.Path.{_≡_, refl, ap, _∙_}
 use lib.Dec.{ltb, leb}
@@ -12,8 +12,8 @@ use Rattle.laws.proofs.Each.{each-append}
 use Rattle.laws.proofs.Tests.{either}
 use Rattle.telegram.specs.declared.message.Number.{Number}
 use Rattle.channel.specs.State.{only, isHeld, heldBy, holderPlace, isPresent}
-use Rattle.line_rules.specs.Rules.{Step, to, callSends, openingSends, endOf, pressOffSends, mobileOffSends, freedSends, capture, captureAt, cut, release, pressOn, pressCall, pressOff, mobileOn, mobileRecipients, mobileCall, mobileOff, tick, tickIdle, tickQuiet, tickRelease, isPressed, endTalk, endCall, happens}
-use Rattle.line_rules.specs.Promises.{GoesTo, OnToTheHolder, OffToTheTold, ToldAreKept, IsAbout, Concerned, AboutTheHolder, NumberForTheHolder, ArrivalOutlivesACut, OneTimerAtATime, TenAndAHundredAndThirty, quietly, sentByTicks}
+use Rattle.line_rules.specs.Rules.{Step, to, callSends, openingSends, endOf, pressOffSends, mobileOffSends, freedSends, capture, captureAt, cut, release, pressOn, pressCall, pressOff, mobileOn, mobileRecipients, mobileCall, mobileOff, tick, tickIdle, tickQuiet, tickRelease, isOpen, isPressed, endTalk, endCall, happens}
+use Rattle.line_rules.specs.Promises.{GoesTo, OnToTheHolder, OffToTheTold, ToldAreKept, IsAbout, Concerned, AboutTheHolder, NumberForTheHolder, ArrivalOutlivesACut, OneTimerAtATime, TenAndAHundredAndThirty, quietly, byTicks}
 use Rattle.channel.specs.declared.state.Party.{Party}
 use Rattle.channel.specs.declared.state.Party.the-variants.{Nobody, By}
 use Rattle.channel.specs.declared.state.Call.{Call}
@@ -155,13 +155,23 @@ one-timer-at-a-time e c q =
 
 -- ---- 130 ticks
 
-ticking : (e : ℕ) (code entitled d : ℕ) (k : Call)
-    → sentByTicks 130 e (quietly code entitled d k) ≡ replicate 9 [] ++ (endOf 3 k ∷ replicate 119 [] ++ ((to e (CaptureState d 0) ∷ []) ∷ []))
-unfolding quietly sentByTicks tick tickIdle tickQuiet tickRelease
-ticking e code entitled d k = refl
+-- 130 ticks of a held channel with an open call, no press and no arrival
+ticking : (e code entitled d kind dir m base : ℕ) (n : Number)
+    → byTicks 130 e (quietly code entitled d (Open kind dir m base n))
+    ≡ replicate 9 ([], (true, true))
+    ++ ((endOf 3 (Open kind dir m base n), (false, true)) ∷ replicate 119 ([], (false, true)) ++ ((to e (CaptureState d 0) ∷ [], (false, false)) ∷ []))
+unfolding quietly byTicks tick tickIdle tickQuiet tickRelease
+ticking e code entitled d kind dir m base n = refl
 
 pub ten-and-a-hundred-and-thirty : TenAndAHundredAndThirty
 unfolding quietly pressOff
-ten-and-a-hundred-and-thirty e c d h a =
+ten-and-a-hundred-and-thirty e c d h a o =
     let q : pressOff c .next ≡ quietly (c .code) (c .entitled) d (c .call) = rw (h, a) in
-    ap (sentByTicks 130 e) q ∙ ticking e (c .code) (c .entitled) d (c .call) ∙ rw h
+    ap (byTicks 130 e) q ∙ go (c .call) o ∙ rw h
+  where
+    go : (k : Call) → isOpen k ≡ true
+        → byTicks 130 e (quietly (c .code) (c .entitled) d k)
+        ≡ replicate 9 ([], (true, true))
+        ++ ((endOf 3 k, (false, true)) ∷ replicate 119 ([], (false, true)) ++ ((to e (CaptureState d 0) ∷ [], (false, false)) ∷ []))
+    go Closed i = absurd (false≢true i)
+    go (Open kind dir m base n) i = ticking e (c .code) (c .entitled) d kind dir m base n

@@ -2,7 +2,7 @@
 -- name given with it. Most of them shut out one of 01's traps on the bench.
 use Prim.Native.Nat.{ℕ, zero, suc, _≤_}
 use mathlib.Core.List.{List, [], _∷_, _++_, map}
-use mathlib.Core.Bool.{true, false}
+use mathlib.Core.Bool.{Bool, true, false}
 use mathlib.Core.Logic.{_⊎_}
 use mathlib.Core.Path.{_≡_}
 use lib.Dec.{eqb, ltb}
@@ -10,8 +10,8 @@ use lib.ListN.{replicate}
 use Rattle.laws.specs.Each.{Each}
 use Rattle.telegram.specs.Telegram.{num}
 use Rattle.telegram.specs.declared.message.Number.{Number}
-use Rattle.channel.specs.State.{only, isIn, freeChannel, isPresent, holderPlace}
-use Rattle.line_rules.specs.Rules.{quietTime, releaseTime, cut, pressOff, mobileOn, mobileOff, tick, endOf, freedSends, mobileRecipients, happens}
+use Rattle.channel.specs.State.{only, isIn, freeChannel, isHeld, isPresent, holderPlace}
+use Rattle.line_rules.specs.Rules.{quietTime, releaseTime, cut, pressOff, mobileOn, mobileOff, tick, isOpen, endOf, freedSends, mobileRecipients, happens}
 use Rattle.line_rules.specs.Notices.{contentFor}
 use Rattle.line_rules.specs.Veil.{hide, hideArrival, hideStep}
 use Rattle.line_rules.specs.Turns.{ordersTo, lasting, ByTurns, Begins}
@@ -93,17 +93,20 @@ unfoldable pub quietly : ℕ → ℕ → ℕ → Call → Channel
 quietly code entitled d k =
     record { code = code; entitled = entitled; holder = By d; presser = Nobody; quiet = quietTime; release = releaseTime; call = k; arrival = Absent }
 
--- what each of so many ticks sends
-unfoldable pub sentByTicks : ℕ → ℕ → Channel → List (List Send)
-sentByTicks zero e c = []
-sentByTicks (suc n) e c = tick e c .sends ∷ sentByTicks n e (tick e c .next)
+-- what each of so many ticks sends, and whether a call is open and the channel held after it
+unfoldable pub byTicks : ℕ → ℕ → Channel → List (List Send × (Bool × Bool))
+byTicks zero e c = []
+byTicks (suc n) e c =
+    (tick e c .sends, (isOpen (tick e c .next .call), isHeld (tick e c .next .holder))) ∷ byTicks n e (tick e c .next)
 
 -- "After the holder's press off with no arrival, .. 9 send nothing, the tenth ends the call, and the 130th releases"
--- (`Traps.ten-and-a-hundred-and-thirty`)
+-- (`Traps.ten-and-a-hundred-and-thirty`); while a desk presses, a call is open (`StaysOk`)
 abbrev pub TenAndAHundredAndThirty : Type 0
 TenAndAHundredAndThirty =
-    (e : ℕ) (c : Channel) (d : ℕ) → c .holder ≡ By d → c .arrival ≡ Absent
-    → sentByTicks 130 e (pressOff c .next) ≡ replicate 9 [] ++ (endOf 3 (c .call) ∷ replicate 119 [] ++ (freedSends e c ∷ []))
+    (e : ℕ) (c : Channel) (d : ℕ) → c .holder ≡ By d → c .arrival ≡ Absent → isOpen (c .call) ≡ true
+    → byTicks 130 e (pressOff c .next)
+    ≡ replicate 9 ([], (true, true))
+    ++ ((endOf 3 (c .call), (false, true)) ∷ replicate 119 ([], (false, true)) ++ ((freedSends e c, (false, false)) ∷ []))
 
 -- ---- What holds of every channel
 

@@ -27,7 +27,7 @@ use Rattle.set_rules.specs.SetRules.{sendsOf, onChannel, onTick, accepte
 use Rattle.set_rules.specs.Feeds.{Outcome, Item, outcomeOf, stepOf, stepBy, run, after}
 use Rattle.set_rules.specs.Spelling.{entryOf}
 use Rattle.set_rules.specs.Marked.{Accepted, Ticked, tickedBy, tickOf, ticksWith, endBytes, EndsAt}
-use Rattle.set_rules.proofs.Answers.{accepted-after}
+use Rattle.set_rules.proofs.Answers.{accepted-after, accepted-done}
 use Rattle.set_rules.proofs.Rows.{no-row}
 use Rattle.set_rules.proofs.Readable.{always-ok}
 use Rattle.line_rules.specs.Invariant.{ChannelOk}
@@ -38,20 +38,11 @@ use Rattle.set_state.specs.declared.state.Entry.{Entry}
 
 -- ---- an accepted tick
 
-tick-accepted : (s : LineSet) → s .planned ≡ true → refusalOf s (entryOf 6 []) (readEntry (entryOf 6 [])) ≡ 0
-unfolding pick readEntry refusalOf firstOf
-tick-accepted s p = rw p
-
-record Done (s : LineSet) (o : Outcome) : Type 0 where
-  bytes-are : o .bytes ≡ recordsOf (s .desks) (onTick s .sent)
-  after-is : o .after ≡ onTick s .after
-
-tick-done : (s : LineSet) (room : ℕ) → s .planned ≡ true → stepOf s (entryOf 6 []) room .refusal ≡ 0 → Done s (stepOf s (entryOf 6 []) room)
-unfolding outcomeOf stepOf pick accepted readEntry onTick
-tick-done s room p z =
-    by-test (leb (spaceOf (onTick s .sent)) room)
-    (λ l. record { bytes-are = rw (tick-accepted s p, l); after-is = rw (tick-accepted s p, l) })
-    (λ l. absurd (let f : _≡_ {A = ℕ} 16 0 = rw (tick-accepted s p, l) at z in omega arith))
+tick-done : (s : LineSet) (b : List ℕ) → stepBy s (record { entry = entryOf 6 []; buffer = b }) .refusal ≡ 0
+    → (stepBy s (record { entry = entryOf 6 []; buffer = b }) .bytes ≡ recordsOf (s .desks) (onTick s .sent))
+    × (stepBy s (record { entry = entryOf 6 []; buffer = b }) .after ≡ onTick s .after)
+unfolding pick accepted readEntry onTick
+tick-done s b z = let k = accepted-done s (record { entry = entryOf 6 []; buffer = b }) z in (k .bytes-are, k .after-is)
 
 -- what a tick of a set writes, and how it leaves the first channel
 tickIn : LineSet → Ticked
@@ -64,19 +55,13 @@ byTicks : ℕ → LineSet → List Ticked
 byTicks zero s = []
 byTicks (suc n) s = tickIn s ∷ byTicks n (onTick s .after)
 
--- a tick leaves the plan
-kept : (s : LineSet) → onTick s .after .planned ≡ s .planned
-unfolding onTick
-kept s = refl
-
-ticks-are : (bs : List (List ℕ)) (s : LineSet) → s .planned ≡ true → Each Accepted (run s (ticksWith bs))
-    → map tickOf (run s (ticksWith bs)) ≡ byTicks (length bs) s
+ticks-are : (bs : List (List ℕ)) (s : LineSet) → Each Accepted (run s (ticksWith bs)) → map tickOf (run s (ticksWith bs)) ≡ byTicks (length bs) s
 unfolding run byTicks tickIn
-ticks-are [] s p a = refl
-ticks-are (b ∷ bs) s p a =
-    let k = tick-done s (length b) p (a .0) in
-    let rest : Each Accepted (run (onTick s .after) (ticksWith bs)) = rw (k .after-is) at (a .1) in
-    rw (k .bytes-are, k .after-is, ticks-are bs (onTick s .after) (kept s ∙ p) rest)
+ticks-are [] s a = refl
+ticks-are (b ∷ bs) s a =
+    let k = tick-done s b (a .0) in
+    let rest : Each Accepted (run (onTick s .after) (ticksWith bs)) = rw (k .1) at (a .1) in
+    rw (k .0, k .1, ticks-are bs (onTick s .after) rest)
 
 -- ---- 130 ticks of a set with one channel, held, with an open call, no press and no arrival
 
@@ -169,7 +154,7 @@ ends-at f c rest d one cs h a i k o z bs l all =
     r .1 ∙ ap (λ (t : LineSet). accepted t (i .entry) x .after) e ∙ let-go c rest (s .desks) (s .size .desks) d (i .entry) x h a k o m in
     let w : freedSends (listenersOf (s .desks) (s .size .desks) q) q ≡ freedSends (listenersOf (s .desks) (s .size .desks) c) c = rw h in
     ap (λ (t : LineSet). map tickOf (run t (ticksWith bs))) g
-    ∙ ticks-are bs s₁ refl (rw g at all)
+    ∙ ticks-are bs s₁ (rw g at all)
     ∙ ap (λ (j : ℕ). byTicks j s₁) l
     ∙ ticked-open (c .code) (c .entitled) d (s .size .desks) (c .call) (press-open f c rest cs pressed) rest (s .desks)
     ∙ ap (λ (n : List Send). inWords (endBytes s c) (recordsOf (s .desks) (delivered (s .desks) (c .code) n))) w
