@@ -5,6 +5,7 @@ mod Witness
 mod Rows
 mod Readable
 mod Ticks
+mod Room
 mod Marked
 mod Worked
 pub mod Kept

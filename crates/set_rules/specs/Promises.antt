@@ -159,8 +159,11 @@ ToldRight =
     Each (Right (servedBy (after newSet f) o) M) (lettersIn (writtenIn i o))
 
 -- 10. 22,976 bytes are enough: with a buffer so long no entry is refused with 16, whatever the feed before (`Room.roomy`).
+abbrev pub roomEnough : ℕ
+roomEnough = 22976
+
 abbrev pub Roomy : Type 0
-Roomy = (f : List Item) (i : Item) → 22976 ≤ length (i .buffer) → stepBy (after newSet f) i .refusal ≡ 16 → ⊥
+Roomy = (f : List Item) (i : Item) → roomEnough ≤ length (i .buffer) → stepBy (after newSet f) i .refusal ≡ 16 → ⊥
 
 -- ---- 11. Holdings (`Holdings.holding-ends`)
 

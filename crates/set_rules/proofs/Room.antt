@@ -1,0 +1,416 @@
+-- No entry sends more than `roomEnough` bytes, whatever the feed before: how many desks are told, how many bytes each record takes,
+-- and then a bound for each kind of entry. A handover sends most.
+-- Assumes nothing.
+use Prim.Native.Nat.{ℕ, zero, suc, _+_, _*_, _/_, _%_, _≤_, _<_}
+use mathlib.Core.List.{List, [], _∷_, _++_}
+use mathlib.Core.Bool.{Bool, true, false, false≢true}
+use mathlib.Core.Path.{_≡_, refl, sym, _∙_}
+use native.Mathlib.Omega.{arith}
+use native.Mathlib.Nat.{le-trans, suc-mul, zero-add, mul-le-mul-right}
+use lib.Count.{onesIn}
+use lib.Dec.{eqb, leb, ltb}
+use lib.ListN.{length, length-take, take, getD, List·getD-eq-default}
+use borrow.Author.Tests.{eqb-false, leb-false, ltb-false, ltb-true}
+use Rattle.laws.specs.Each.{Each}
+use Rattle.laws.proofs.Each.{_▹_, each-at, each-map, each-take}
+use Rattle.laws.proofs.Table.{pick-each}
+use Rattle.laws.proofs.Tests.{both, by-test, either}
+use Rattle.telegram.specs.Telegram.{readTelegram}
+use Rattle.telegram.specs.declared.message.Number.{Number}
+use Rattle.telegram.specs.declared.message.Reading.{Reading}
+use Rattle.channel.specs.State.{only, firstDesks, isIn, isHeld, heldBy, isPresent}
+use Rattle.channel.specs.declared.state.Party.{Party}
+use Rattle.channel.specs.declared.state.Party.the-variants.{Nobody, By}
+use Rattle.channel.specs.declared.state.Call.{Call}
+use Rattle.channel.specs.declared.state.Call.the-variants.{Closed, Open}
+use Rattle.channel.specs.declared.state.Arrival.{Arrival}
+use Rattle.channel.specs.declared.state.Arrival.the-variants.{Absent, Present}
+use Rattle.channel.specs.declared.state.Channel.{Channel}
+use Rattle.channel.specs.declared.state.Event.{Event}
+use Rattle.channel.specs.declared.state.Event.the-variants.{Capture, Release, Cut, PressOn, PressOff, MobileOn, MobileOff, Tick, EndTalk, EndCall}
+use Rattle.channel.specs.declared.state.Notice.the-variants.{PressAnswer, Incoming, BaseArrival, PressNotice, CallerNotice}
+use Rattle.channel.specs.declared.state.Send.{Send}
+use Rattle.line_rules.specs.Rules.{Step, happens, capture, captureAt, cut, release, pressOn, pressOff, mobileOn, mobileOff, tick, tickIdle, tickQuiet, tickRelease, endTalk, endCall, isPressed, openingSends, callSends, endOf, pressOffSends, pressCall, mobileCall, mobileOffSends, freedSends, mobileRecipients, sentIf, kindOf, to}
+use Rattle.line_rules.specs.Among.{AllListen, CallTold, ArrivalTold, Among}
+use Rattle.line_rules.proofs.Kept.{only-other}
+use Rattle.set_state.specs.State.{newSet, noDesk, noChannel, isRunning, listenersOf, channelsOf, placeIn, channelAt}
+use Rattle.set_state.specs.Bytes.{byte}
+use Rattle.set_state.specs.Promises.{ListenersExactly}
+use Rattle.set_state.specs.declared.state.Desk.{Desk}
+use Rattle.set_state.specs.declared.state.LineSet.{LineSet}
+use Rattle.set_state.specs.declared.state.Entry.{Entry}
+use Rattle.set_state.specs.declared.state.LinkRequest.the-variants.{TellsTime, TellsState}
+use Rattle.set_state.specs.declared.state.Request.{Request}
+use Rattle.set_state.specs.declared.state.Request.the-variants.{OfLink, OnChannel, Foreign}
+use Rattle.set_rules.specs.Entries.{readEntry, measured, payloadOk, payload, telegramIn, planIn}
+use Rattle.set_rules.specs.Plan.{setOf}
+use Rattle.set_rules.specs.Refusals.{Lookup, Test, askedIn, firstOf, table, refusalOf}
+use Rattle.set_rules.specs.Records.{Delivery, delivered, spaceOf}
+use Rattle.set_rules.specs.SetRules.{Effect, onChannel, sendsOf, tickSends, endSends, onTick, onHandover, onPlan, onRequest, ways, accepted}
+use Rattle.set_rules.specs.Feeds.{Item, outcomeOf, stepOf, after}
+use Rattle.set_rules.specs.Invariant.{Shaped, aroundOf}
+use Rattle.set_rules.specs.Promises.{roomEnough, Roomy, AlwaysShaped, AlwaysAmong, Brings}
+
+-- ---- how many desks a set has
+
+-- a set of some of the first n desks
+ones-most : (k n m : ℕ) → ((d : ℕ) → isIn d m ≡ true → d < n) → onesIn k m ≤ n
+unfolding onesIn isIn
+ones-most zero n m h = omega arith
+ones-most (suc k) zero m h =
+    let z = by-test (eqb (m % 2) 1) (λ p. absurd (omega (arith, h 0 p))) (λ p. eqb-false (m % 2) 1 p) in
+    let rest = ones-most k 0 (m / 2) (λ d i. absurd (omega (arith, h (suc d) i))) in
+    omega (arith, z, rest)
+ones-most (suc k) (suc n) m h =
+    let rest = ones-most k n (m / 2) (λ d i. omega (arith, h (suc d) i)) in
+    omega (arith, rest)
+
+-- any set, by its places
+ones-places : (k m : ℕ) → onesIn k m ≤ k
+unfolding onesIn
+ones-places zero m = omega arith
+ones-places (suc k) m = omega (arith, ones-places k (m / 2))
+
+-- a set of no desk but d
+ones-one : (k d m : ℕ) → ((j : ℕ) → (d ≡ j → ⊥) → isIn j m ≡ false) → onesIn k m ≤ 1
+unfolding onesIn isIn
+ones-one zero d m h = omega arith
+ones-one (suc k) zero m h =
+    let rest = ones-most k 0 (m / 2) (λ j i. absurd (false≢true (sym (h (suc j) (λ p. omega (arith, p))) ∙ i))) in
+    omega (arith, rest)
+ones-one (suc k) (suc d) m h =
+    let z = eqb-false (m % 2) 1 (h 0 (λ p. omega (arith, p))) in
+    let rest = ones-one k d (m / 2) (λ j n. h (suc j) (λ p. n (omega (arith, p)))) in
+    omega (arith, z, rest)
+
+one-desk : (d : ℕ) → onesIn 8 (only d) ≤ 1
+one-desk d = ones-one 8 d (only d) (λ j n. only-other j d n)
+
+-- ---- the space that sends take
+
+space-append : (vs ws : List Delivery) → spaceOf (vs ++ ws) ≡ spaceOf vs + spaceOf ws
+unfolding spaceOf
+space-append [] ws = sym (zero-add (spaceOf ws))
+space-append (v ∷ vs) ws = let e = space-append vs ws in omega arith
+
+-- what a handover sends of one channel, at most
+abbrev perChannel : ℕ
+perChannel = 718
+
+-- the sets kept in a channel have at most four desks
+abbrev CallFew : Call → Type 0
+CallFew Closed = Unit {0}
+CallFew (Open k d m b s) = onesIn 8 m ≤ 4
+
+abbrev ArrivalFew : Arrival → Type 0
+ArrivalFew Absent = Unit {0}
+ArrivalFew (Present k m b n) = onesIn 8 m ≤ 4
+
+record Few (c : Channel) : Type 0 where
+  call-few : CallFew (c .call)
+  arrival-few : ArrivalFew (c .arrival)
+
+module _ (ds : List Desk) (ch : ℕ) where
+  unfoldable takes : List Send → ℕ
+  takes ss = spaceOf (delivered ds ch ss)
+
+  abbrev Within : ℕ → Step → Type 0
+  Within n st = takes (st .sends) ≤ n
+
+  takes-append : (ss ts : List Send) → takes (ss ++ ts) ≡ takes ss + takes ts
+  unfolding takes delivered spaceOf
+  takes-append [] ts = sym (zero-add (takes ts))
+  takes-append (s ∷ ss) ts = let e = takes-append ss ts in omega arith
+
+  nothing-takes : (n : ℕ) → takes [] ≤ n
+  unfolding takes delivered spaceOf
+  nothing-takes n = omega arith
+
+  -- 550473: 51 bytes
+  call-takes : (t r : ℕ) (k : Call) → CallFew k → takes (callSends t r k) ≤ 204
+  unfolding takes delivered spaceOf
+  call-takes t r Closed f = omega arith
+  call-takes t r (Open k d m b s) f = omega (arith, f)
+
+  -- a contact of 8 bytes, and 550477: 38
+  press-off-takes : (p : Party) (k : Call) → takes (pressOffSends p k) ≤ 46
+  unfolding takes delivered spaceOf
+  press-off-takes Nobody k = omega arith
+  press-off-takes (By d) k = omega (arith, one-desk d)
+
+  -- a contact, 550464 and 550477: 8, 37 and 38
+  mobile-off-takes : (a : Arrival) → ArrivalFew a → takes (mobileOffSends a) ≤ 332
+  unfolding takes delivered spaceOf
+  mobile-off-takes Absent f = omega arith
+  mobile-off-takes (Present k m b n) f = omega (arith, f)
+
+  module _ (e : ℕ) (listeners : onesIn 8 e ≤ 4) (c : Channel) (few : Few c) where
+    -- 550651: 34 bytes
+    freed-takes : takes (freedSends e c) ≤ 136
+    unfolding takes delivered spaceOf
+    freed-takes = omega (arith, listeners)
+
+    -- ---- what each rule sends at most
+
+    -- 550650: 25 bytes
+    capture-takes : (d : ℕ) → takes (capture e d c .sends) ≤ 161
+    unfolding capture takes delivered spaceOf
+    capture-takes d = go (c .holder)
+      where
+        go : (h : Party) → takes (captureAt h e d c .sends) ≤ 161
+        go Nobody = omega (arith, one-desk d, listeners)
+        go (By h) = omega (arith, one-desk d)
+
+    cut-takes : takes (cut e c .sends) ≤ 386
+    unfolding cut
+    cut-takes =
+        let p = takes-append (pressOffSends (c .presser) (c .call)) (endOf 1 (c .call) ++ freedSends e c) in
+        let q = takes-append (endOf 1 (c .call)) (freedSends e c) in
+        omega (arith, p, q, press-off-takes (c .presser) (c .call), call-takes 0 1 (c .call) (few .call-few), freed-takes)
+
+    release-takes : (d : ℕ) → takes (release e d c .sends) ≤ 411
+    unfolding release takes delivered spaceOf
+    release-takes d =
+        either (Within 411) (heldBy d (c .holder)) _ _
+        (omega (arith, one-desk d, cut-takes))
+        (omega (arith, one-desk d))
+
+    pressOn-takes : (d : ℕ) (n : Number) → takes (pressOn d n c .sends) ≤ 97
+    unfolding pressOn takes delivered spaceOf
+    pressOn-takes d n = go (c .call)
+      where
+        go : (k : Call) → takes (to (only d) (PressAnswer 1) ∷ openingSends k (pressCall d n) ++ (to (only d) (PressNotice (kindOf k) 1) ∷ [])) ≤ 97
+        go Closed = omega (arith, one-desk d)
+        go (Open k d′ m b s) = omega (arith, one-desk d)
+
+    pressOff-takes : takes (pressOff c .sends) ≤ 46
+    unfolding pressOff
+    pressOff-takes = press-off-takes (c .presser) (c .call)
+
+    mobile-few : (h : Party) → onesIn 8 (mobileRecipients h e) ≤ 4
+    mobile-few Nobody = listeners
+    mobile-few (By d) = omega (arith, one-desk d)
+
+    mobileOn-takes : (b : ℕ) (n : Number) → takes (mobileOn e b n c .sends) ≤ 536
+    unfolding mobileOn takes delivered spaceOf
+    mobileOn-takes b n = go (mobileRecipients (c .holder) e) (mobile-few (c .holder)) (c .call)
+      where
+        go : (m : ℕ) → onesIn 8 m ≤ 4 → (k : Call)
+            → takes (to m (Incoming 1) ∷ to m (BaseArrival (kindOf k) b n 1) ∷ openingSends k (mobileCall m b n) ++ (to m (CallerNotice (kindOf k) b n 1) ∷ [])) ≤ 536
+        go m f Closed = omega (arith, f)
+        go m f (Open k d m′ b′ s) = omega (arith, f)
+
+    mobileOff-takes : takes (mobileOff c .sends) ≤ 332
+    unfolding mobileOff
+    mobileOff-takes = mobile-off-takes (c .arrival) (few .arrival-few)
+
+    -- a call's end, or a release
+    tick-takes : takes (tick e c .sends) ≤ 204
+    unfolding tick tickIdle tickQuiet tickRelease
+    tick-takes =
+        let P = Within 204 in
+        let none = nothing-takes 204 in
+        either P (isPressed c) _ _ none
+        (either P (isPresent (c .arrival)) _ _ none
+        (either P (ltb 0 (c .quiet)) _ _
+        (either P (leb (c .quiet) 1) _ _ (call-takes 0 3 (c .call) (few .call-few)) none)
+        (either P (isHeld (c .holder)) _ _ (either P (leb (c .release) 1) _ _ (omega (arith, freed-takes)) none) none)))
+
+    endTalk-takes : takes (endTalk c .sends) ≤ 378
+    unfolding endTalk
+    endTalk-takes =
+        let p = takes-append (pressOffSends (c .presser) (c .call)) (mobileOffSends (c .arrival)) in
+        omega (arith, p, press-off-takes (c .presser) (c .call), mobile-off-takes (c .arrival) (few .arrival-few))
+
+    endCall-takes : takes (endCall e c .sends) ≤ 340
+    unfolding endCall
+    endCall-takes =
+        let p = takes-append (endOf 2 (c .call)) (sentIf (isHeld (c .holder)) (freedSends e c)) in
+        let q = either (λ (ss : List Send). takes ss ≤ 136) (isHeld (c .holder)) (freedSends e c) [] freed-takes (nothing-takes 136) in
+        omega (arith, p, q, call-takes 0 2 (c .call) (few .call-few))
+
+    handover-takes : takes (endTalk c .sends ++ endCall e c .sends) ≤ perChannel
+    handover-takes = omega (arith, takes-append (endTalk c .sends) (endCall e c .sends), endTalk-takes, endCall-takes)
+
+    -- any event on one channel: a mobile on sends most
+    happens-takes : (v : Event) → takes (happens v e c .sends) ≤ 536
+    unfolding happens
+    happens-takes (Capture d) = omega (arith, capture-takes d)
+    happens-takes (Release d) = omega (arith, release-takes d)
+    happens-takes Cut = omega (arith, cut-takes)
+    happens-takes (PressOn d n) = omega (arith, pressOn-takes d n)
+    happens-takes PressOff = omega (arith, pressOff-takes)
+    happens-takes (MobileOn b n) = mobileOn-takes b n
+    happens-takes MobileOff = omega (arith, mobileOff-takes)
+    happens-takes Tick = omega (arith, tick-takes)
+    happens-takes EndTalk = omega (arith, endTalk-takes)
+    happens-takes EndCall = omega (arith, endCall-takes)
+
+-- ---- entries, in a set of at most 32 channels whose listeners are at most four
+
+module _ (s : LineSet) (shaped : Shaped s) (few : Each Few (s .channels)) (listeners : (c : Channel) → onesIn 8 (listenersOf (s .desks) (s .size .desks) c) ≤ 4) where
+  abbrev Room : Effect → Type 0
+  Room f = spaceOf (f .sent) ≤ roomEnough
+
+  -- presses, cuts and mobiles, and captures and releases by telegram
+  on-room : (ch : ℕ) (v : Event) → Room (onChannel s ch v)
+  unfolding onChannel takes
+  on-room ch v =
+      let c = channelAt s ch in
+      let none : Few noChannel = record { call-few = tt; arrival-few = tt } in
+      let at = each-at Few (channelsOf s) noChannel (each-take Few (s .size .channels) (s .channels) few) none (placeIn s ch) in
+      omega (arith, happens-takes (s .desks) (c .code) (listenersOf (s .desks) (s .size .desks) c) (listeners c) c at v)
+
+  -- telegrams
+  request-room : (d : ℕ) (q : Request) → Room (onRequest s d q)
+  unfolding spaceOf
+  request-room d (OfLink TellsTime) = omega (arith, one-desk d)
+  request-room d (OfLink (TellsState a)) = omega arith
+  request-room d (OnChannel ch n v) = on-room ch v
+  request-room d Foreign = omega arith
+
+  -- all channels, at n bytes each
+  all-take : (f : Channel → List Send) (n : ℕ) → ((c : Channel) → Few c → takes (s .desks) (c .code) (f c) ≤ n)
+      → (cs : List Channel) → Each Few cs → spaceOf (sendsOf (s .desks) f cs) ≤ length cs * n
+  unfolding sendsOf takes spaceOf
+  all-take f n h [] o = omega arith
+  all-take f n h (c ∷ cs) o =
+      let p = space-append (delivered (s .desks) (c .code) (f c)) (sendsOf (s .desks) f cs) in
+      rw (suc-mul (length cs) n) (omega (arith, p, h c (o .0), all-take f n h cs (o .1)))
+
+  planned-take : (f : Channel → List Send) (n : ℕ) → ((c : Channel) → Few c → takes (s .desks) (c .code) (f c) ≤ n)
+      → spaceOf (sendsOf (s .desks) f (channelsOf s)) ≤ 32 * n
+  planned-take f n h =
+      let l : length (channelsOf s) ≤ 32 = omega (arith, length-take (s .size .channels) (s .channels), shaped .channels-most) in
+      le-trans (all-take f n h (channelsOf s) (each-take Few (s .size .channels) (s .channels) few)) (mul-le-mul-right n l)
+
+  tick-room : Room (onTick s)
+  unfolding onTick happens
+  tick-room = omega (arith, planned-take (tickSends (s .desks) (s .size .desks)) 204 (λ c f. tick-takes (s .desks) (c .code) _ (listeners c) c f))
+
+  handover-room : Room (onHandover s)
+  unfolding onHandover happens
+  handover-room = omega (arith, planned-take (endSends (s .desks) (s .size .desks)) perChannel (λ c f. handover-takes (s .desks) (c .code) _ (listeners c) c f))
+
+  -- a 550461 of 21 bytes to each desk: a set has eight places, whatever the plan
+  plan-room : (p : List ℕ) → Room (onPlan p)
+  unfolding spaceOf
+  plan-room p = omega (arith, ones-places 8 (firstDesks (setOf p .size .desks)))
+
+  accepted-room : (e : List ℕ) (x : Entry) → Room (accepted s e x)
+  unfolding accepted spaceOf
+  accepted-room e x =
+      pick-each Room (x .kind) _ (ways s e x) (omega arith)
+      ((λ k. request-room (x .desk) (askedIn (x .desk) (readTelegram (telegramIn e))))
+      ▹ (λ k. on-room (x .channel) _)
+      ▹ (λ k. on-room (x .channel) Cut)
+      ▹ (λ k. on-room (x .channel) _)
+      ▹ (λ k. on-room (x .channel) MobileOff)
+      ▹ (λ k. tick-room)
+      ▹ (λ k. plan-room (planIn e))
+      ▹ (λ k. handover-room)
+      ▹ tt)
+
+-- ---- no other refusal is 16
+
+-- the number of the first row that holds
+first-most : (rows : List (ℕ × Test)) → Each (λ (row : ℕ × Test). row .0 ≤ 15) rows → (v : Lookup) (e : List ℕ) (r : Reading) (x : Entry) → firstOf rows v e r x ≤ 15
+unfolding firstOf
+first-most [] o v e r x = omega arith
+first-most (row ∷ rows) o v e r x = either (λ (n : ℕ). n ≤ 15) ((row .1) v e r x) (row .0) (firstOf rows v e r x) (o .0) (first-most rows (o .1) v e r x)
+
+rows-most : Each (λ (row : ℕ × Test). row .0 ≤ 15) table
+rows-most =
+    omega arith ▹ omega arith ▹ omega arith ▹ omega arith ▹ omega arith ▹ omega arith ▹ omega arith ▹ omega arith ▹ omega arith ▹ omega arith
+    ▹ omega arith ▹ omega arith ▹ tt
+
+-- the number of bytes that do not read
+abbrev NotSixteen : Entry → Type 0
+NotSixteen x = x .refusal ≤ 15
+
+payload-most : (k : ℕ) (e : List ℕ) → NotSixteen (payload k e)
+payload-most k e =
+    either NotSixteen (eqb k 1) _ _ (omega arith)
+    (either NotSixteen (eqb k 2) _ _ (omega arith)
+    (either NotSixteen (eqb k 3) _ _ (omega arith)
+    (either NotSixteen (eqb k 4) _ _ (omega arith)
+    (either NotSixteen (eqb k 5) _ _ (omega arith) (omega arith)))))
+
+read-most : (e : List ℕ) → NotSixteen (readEntry e)
+unfolding readEntry
+read-most e =
+    either NotSixteen (measured e) _ _
+    (either NotSixteen (eqb (byte e 2) 1) _ _ (either NotSixteen (payloadOk (byte e 3) e) _ _ (payload-most (byte e 3) e) (omega arith)) (omega arith))
+    (omega arith)
+
+refusal-most : (s : LineSet) (e : List ℕ) → refusalOf s e (readEntry e) ≤ 15
+unfolding refusalOf
+refusal-most s e =
+    either (λ (n : ℕ). n ≤ 15) (eqb (readEntry e .refusal) 0) _ _
+    (first-most table rows-most _ e (readTelegram (telegramIn e)) (readEntry e))
+    (read-most e)
+
+-- ---- every feed
+
+-- a desk that is not there is not running
+there : (ds : List Desk) (n d : ℕ) → isRunning (getD (take n ds) d noDesk) ≡ true → d < n
+there ds n d r =
+    by-test (ltb d (length (take n ds)))
+    (λ p. omega (arith, ltb-true d (length (take n ds)) p, length-take n ds))
+    (λ p. absurd (false≢true (rw (List·getD-eq-default (take n ds) noDesk {n = d} (ltb-false d (length (take n ds)) p)) at r)))
+
+-- any mobile's number will do
+abbrev Any : Number → Type 0
+Any n = Unit {0}
+
+brought : (f : List Item) → Each (Brings Any) f
+brought [] = tt
+brought (i ∷ f) = (λ k. tt, brought f)
+
+among-few : (s : LineSet) → Shaped s → (c : Channel) → Among (aroundOf s Any) c → Few c
+among-few s shaped c a = record { call-few = call (c .call) (a .call-told); arrival-few = arrival (c .arrival) (a .arrival-told) }
+  where
+    told : (m : ℕ) → AllListen (aroundOf s Any) c m → onesIn 8 m ≤ 4
+    told m l = le-trans (ones-most 8 (s .size .desks) m (λ d i. l d i .0 .0)) (shaped .desks-most)
+
+    call : (k : Call) → CallTold (aroundOf s Any) c k → CallFew k
+    call Closed t = tt
+    call (Open k d m b n) t = told m (t .listen)
+
+    arrival : (x : Arrival) → ArrivalTold (aroundOf s Any) c x → ArrivalFew x
+    arrival Absent t = tt
+    arrival (Present k m b n) t = told m (t .listen)
+
+-- TO BE CITED: the three parameters
+module _ (always-shaped : AlwaysShaped) (always-among : AlwaysAmong) (listeners-exactly : ListenersExactly) where
+  listeners-few : (s : LineSet) → Shaped s → (c : Channel) → onesIn 8 (listenersOf (s .desks) (s .size .desks) c) ≤ 4
+  listeners-few s shaped c =
+      let e = listenersOf (s .desks) (s .size .desks) c in
+      let short : length (s .desks) ≤ 8 = omega (arith, shaped .four-desks) in
+      le-trans
+      (ones-most 8 (s .size .desks) e (λ d i.
+      there (s .desks) (s .size .desks) d (both _ (isIn d (c .entitled)) (sym (listeners-exactly (s .desks) (s .size .desks) c d short) ∙ i) .0)))
+      (shaped .desks-most)
+
+  room-after : (f : List Item) (e : List ℕ) (x : Entry) → spaceOf (accepted (after newSet f) e x .sent) ≤ roomEnough
+  room-after f e x =
+      let s = after newSet f in
+      let shaped = always-shaped f in
+      let few = each-map (Among (aroundOf s Any)) Few (among-few s shaped) (s .channels) (always-among Any f (brought f)) in
+      accepted-room s shaped few (listeners-few s shaped) e x
+
+  pub roomy : Roomy
+  unfolding outcomeOf stepOf
+  roomy f i l z =
+      go (eqb (refusalOf s (i .entry) x) 0) refl (leb (spaceOf (accepted s (i .entry) x .sent)) (length (i .buffer))) refl
+    where
+      s : LineSet
+      s = after newSet f
+
+      x : Entry
+      x = readEntry (i .entry)
+
+      go : (t : Bool) → eqb (refusalOf s (i .entry) x) 0 ≡ t → (u : Bool) → leb (spaceOf (accepted s (i .entry) x .sent)) (length (i .buffer)) ≡ u → ⊥
+      go true k true m = omega (arith, rw (k, m) at z)
+      go true k false m = omega (arith, l, leb-false (spaceOf (accepted s (i .entry) x .sent)) (length (i .buffer)) m, room-after f (i .entry) x)
+      go false k u m = omega (arith, rw k at z, refusal-most s (i .entry))
