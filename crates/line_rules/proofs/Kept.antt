@@ -3,13 +3,14 @@
 use mathlib.Core.Path.{refl}
 use mathlib.Core.Bool.{false≢true}
 use native.Mathlib.Omega.{arith}
-use Rattle.line_rules.specs.Promises.{FreeIsOk, StaysOk, SaysInRange, FreeIsAmong, StaysAmong, SaysForDesk, OnlyOther, HideTwice, PresentHide, HappensHide, NumberHidden, HoldingLasts, GoesByTurns, HandoverEnds}
+use Rattle.line_rules.specs.Promises.{FreeIsOk, StaysOk, SaysInRange, FreeIsAmong, StaysAmong, SaysForDesk, OnlyOther, HideTwice, PresentHide, HappensHide, NumberHidden, HoldingLasts, KeepsPlace, GoesByTurns, HandoverEnds}
 use Rattle.line_rules.proofs.Ranges as ranges
 use Rattle.line_rules.proofs.Timers.{happens-timed}
 use Rattle.line_rules.proofs.Masks as masks
 use Rattle.line_rules.proofs.Among as among
 use Rattle.line_rules.proofs.Veil as left
 use Rattle.line_rules.proofs.Holding as holding
+use Rattle.line_rules.proofs.Place as place
 use Rattle.line_rules.proofs.Turns as turns
 
 pub free-is-ok : FreeIsOk
@@ -52,6 +53,9 @@ number-hidden = left.number-hidden
 
 pub holding-lasts : HoldingLasts
 holding-lasts = holding.holding-lasts
+
+pub keeps-place : KeepsPlace
+keeps-place = place.keeps-place
 
 pub by-turns : GoesByTurns
 by-turns = turns.by-turns

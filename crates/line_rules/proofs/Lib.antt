@@ -5,5 +5,6 @@ mod Timers
 mod Masks
 mod Among
 mod Holding
+mod Place
 mod Turns
 pub mod Kept

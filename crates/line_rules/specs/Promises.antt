@@ -181,6 +181,12 @@ Ends EndCall c d = Unit {0}
 abbrev pub HoldingLasts : Type 0
 HoldingLasts = (v : Event) (e : ℕ) (c : Channel) (d : ℕ) → c .holder ≡ By d → (happens v e c .next .holder ≡ By d) ⊎ Ends v c d
 
+-- ---- The plan's part of a channel
+
+-- A channel keeps its code and its entitled desks, whatever happens (`Kept.keeps-place`).
+abbrev pub KeepsPlace : Type 0
+KeepsPlace = (v : Event) (e : ℕ) (c : Channel) → (happens v e c .next .code ≡ c .code) × (happens v e c .next .entitled ≡ c .entitled)
+
 -- ---- What was told is ended
 
 -- On every matter a desk is told start and end by turns, and of each end whose start it was told (`Kept.by-turns`).

@@ -13,6 +13,7 @@ use lib.Seq.{take-at, drop-at}
 use borrow.Author.Tests.{eqb-true, eqb-false, eq-eqb, lt-leb, leb-true}
 use Rattle.telegram.specs.Telegram.{readTelegram, over}
 use Rattle.laws.proofs.Each.{_▹_, each-append}
+use Rattle.laws.proofs.Tests.{by-test}
 use Rattle.telegram.proofs.Kept.{length-telegram}
 use Rattle.channel.specs.State.{isIn}
 use Rattle.line_rules.specs.Notices.{Content, telegram, contact, contentFor}
@@ -212,6 +213,14 @@ accepted-done s i z =
 pub accepted-after : (s : LineSet) (i : Item) → stepBy s i .refusal ≡ 0
     → (refusalOf s (i .entry) (readEntry (i .entry)) ≡ 0) × (stepBy s i .after ≡ accepted s (i .entry) (readEntry (i .entry)) .after)
 accepted-after s i z = let k = accepted-done s i z in (k .no-refusal, k .after-is)
+
+-- what holds of a set before an entry holds after it, if an accepted one keeps it
+pub step-keeps : (P : LineSet → Type 0) (s : LineSet) (i : Item) → P s
+    → (stepBy s i .refusal ≡ 0 → P (accepted s (i .entry) (readEntry (i .entry)) .after)) → P (stepBy s i .after)
+step-keeps P s i p q =
+    by-test (eqb (stepBy s i .refusal) 0)
+    (λ h. let z = eqb-true _ 0 h in subst P (sym (accepted-after s i z .1)) (q z))
+    (λ h. subst P (sym (refused s (i .entry) (length (i .buffer)) (λ z. false≢true (sym h ∙ eq-eqb _ 0 z)) .1)) p)
 
 handover-after : (s : LineSet) (i : Item) → readEntry (i .entry) .kind ≡ 8 → stepBy s i .refusal ≡ 0 → stepBy s i .after ≡ newSet
 handover-after s i h z = accepted-after s i z .1 ∙ handed-over s (i .entry) (readEntry (i .entry)) h

@@ -6,6 +6,7 @@ mod Rows
 mod Readable
 mod Ticks
 mod Room
+mod Holdings
 mod Marked
 mod Worked
 pub mod Kept

@@ -57,7 +57,7 @@ use Rattle.set_rules.proofs.Received.{toEachOne, eachOf, cut-records}
 use Rattle.set_rules.proofs.Rows.{no-row}
 
 -- a test that does not fail
-holds : (t : Bool) → not t ≡ false → t ≡ true
+pub holds : (t : Bool) → not t ≡ false → t ≡ true
 holds true h = refl
 holds false h = absurd (false≢true (sym h))
 
@@ -145,7 +145,7 @@ module _ (s : LineSet) (ok : SetOk s) where
   own-ok : (d : ℕ) → NumberOk (ownOf (s .desks) d)
   own-ok d = desk-ok (s .desks) (ok .desks-ok) d .number-ok
 
-  at-ok : (ch : ℕ) → ChannelOk (channelAt s ch)
+  pub at-ok : (ch : ℕ) → ChannelOk (channelAt s ch)
   at-ok ch = each-at ChannelOk (channelsOf s) noChannel (each-take ChannelOk (s .size .channels) (s .channels) (ok .channels-ok)) no-channel (placeIn s ch)
 
   on-ok : (ch : ℕ) (v : Event) → Fits v (channelAt s ch) → EffectOk (onChannel s ch v)
@@ -303,7 +303,7 @@ plan-kept : (s : LineSet) (e : List ℕ) (x : Entry) → refusalOf s e x ≡ 0 �
 plan-kept s e x z k = holds (planOk (planIn e)) (rw k at (no-row s e x z .row6-fails))
 
 -- an accepted press is the holder's, and off only while on: rows 14 and 15
-held-by : (d : ℕ) (h : Party) → heldBy d h ≡ true → h ≡ By d
+pub held-by : (d : ℕ) (h : Party) → heldBy d h ≡ true → h ≡ By d
 held-by d Nobody e = absurd (false≢true e)
 held-by d (By h) e = ap By (eqb-true h d e)
 

@@ -11,7 +11,7 @@ use Rattle.laws.specs.Each.{Each}
 use Rattle.telegram.specs.Telegram.{readTelegram}
 use Rattle.telegram.specs.declared.message.Reading.{Reading}
 use Rattle.set_rules.specs.Entries.{telegramIn}
-use Rattle.set_rules.specs.Refusals.{Lookup, lookupIn, Test, askedIn, namedBy, row4, row6, row12, row14, row15, firstOf, refusalOf, table}
+use Rattle.set_rules.specs.Refusals.{Lookup, lookupIn, Test, askedIn, namedBy, row4, row5, row6, row12, row14, row15, firstOf, refusalOf, table}
 use Rattle.laws.specs.Each.{Each}
 use Rattle.set_state.specs.declared.state.LineSet.{LineSet}
 use Rattle.set_state.specs.declared.state.Entry.{Entry}
@@ -56,6 +56,7 @@ module _ (s : LineSet) (e : List ℕ) (x : Entry) where
   -- the rows that a proof goes by, by their numbers
   pub record NoRow : Type 0 where
     pub row4-fails : fails row4
+    pub row5-fails : fails row5
     pub row6-fails : fails row6
     pub row12-fails : fails row12
     pub row14-fails : fails row14
@@ -65,4 +66,4 @@ module _ (s : LineSet) (e : List ℕ) (x : Entry) where
   no-row z =
       let t = rows-fail z in
       let from12 = t .1 .1 .1 .1 .1 .1 .1 .1 in
-      record { row4-fails = t .0; row6-fails = t .1 .1 .0; row12-fails = from12 .0; row14-fails = from12 .1 .1 .0; row15-fails = from12 .1 .1 .1 .0 }
+      record { row4-fails = t .0; row5-fails = t .1 .0; row6-fails = t .1 .1 .0; row12-fails = from12 .0; row14-fails = from12 .1 .1 .0; row15-fails = from12 .1 .1 .1 .0 }

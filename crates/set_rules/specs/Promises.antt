@@ -17,7 +17,7 @@ use Rattle.channel.specs.declared.state.Arrival.the-variants.{Absent}
 use Rattle.channel.specs.declared.state.Event.the-variants.{Release}
 use Rattle.channel.specs.declared.state.Party.{Party}
 use Rattle.channel.specs.declared.state.Party.the-variants.{Nobody, By}
-use Rattle.set_state.specs.State.{newSet, noDesk, channelsOf, hasChannel, channelAt}
+use Rattle.set_state.specs.State.{newSet, noDesk, channelsOf, channelAt}
 use Rattle.set_state.specs.Bytes.{byte}
 use Rattle.set_rules.specs.Entries.{mobileIn, readEntry, telegramIn}
 use Rattle.set_rules.specs.Refusals.{isCaller, askedIn}
@@ -178,7 +178,7 @@ pub data Ends (s : LineSet) (e : List ℕ) (d ch : ℕ) : Type 0 where
 -- A holding lasts, or its holder, its timer or a handover ends it.
 abbrev pub HoldingEnds : Type 0
 HoldingEnds =
-    (f : List Item) (i : Item) (ch d : ℕ) → hasChannel (after newSet f) ch ≡ true → channelAt (after newSet f) ch .holder ≡ By d
+    (f : List Item) (i : Item) (ch d : ℕ) → channelAt (after newSet f) ch .holder ≡ By d
     → (channelAt (stepBy (after newSet f) i .after) ch .holder ≡ By d) ⊎ Ends (after newSet f) (i .entry) d ch
 
 -- 12. What an accepted entry finds (`Holdings.finds`): a press or a cut is the holder's; a press on finds no press, and a mobile on no
