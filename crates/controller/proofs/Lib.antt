@@ -1,1 +1,2 @@
 mod Stepped
+mod Feeds

@@ -30,7 +30,7 @@ use Rattle.set_rules.specs.Records.{Delivery, delivered, recordFor, reco
 use Rattle.set_rules.specs.SetRules.{Effect, onChannel, sendsOf, onTick, onHandover, onRequest, ways, accepted}
 use Rattle.set_rules.specs.Feeds.{Outcome, Item, Gives, outcomeOf, stepOf, stepBy, run, after}
 use Rattle.set_rules.specs.RecordLaws.{EvenSized, AllEven, RecordIsLong, SpaceIsLength, EvenSends, EvenAll, withoutLowest, OneMoreHalf, LowestBit, GivesAlike, LeftAsWas, NoRoom}
-use Rattle.set_rules.specs.Promises.{Refused, Counted, Written, Renewed}
+use Rattle.set_rules.specs.Promises.{Refused, Counted, Written, HandoverMakesNew, Renewed}
 use Rattle.set_state.specs.declared.state.Answer.{Answer}
 use Rattle.set_state.specs.declared.state.Desk.{Desk}
 use Rattle.set_state.specs.declared.state.LineSet.{LineSet}
@@ -222,8 +222,8 @@ step-keeps P s i p q =
     (λ h. let z = eqb-true _ 0 h in subst P (sym (accepted-after s i z .1)) (q z))
     (λ h. subst P (sym (refused s (i .entry) (length (i .buffer)) (λ z. false≢true (sym h ∙ eq-eqb _ 0 z)) .1)) p)
 
-handover-after : (s : LineSet) (i : Item) → readEntry (i .entry) .kind ≡ 8 → stepBy s i .refusal ≡ 0 → stepBy s i .after ≡ newSet
-handover-after s i h z = accepted-after s i z .1 ∙ handed-over s (i .entry) (readEntry (i .entry)) h
+pub made-new : HandoverMakesNew
+made-new s h k z = accepted-after s h z .1 ∙ handed-over s (h .entry) (readEntry (h .entry)) k
 
 after-append : (s : LineSet) (f : List Item) (i : Item) → after s (f ++ (i ∷ [])) ≡ stepBy (after s f) i .after
 unfolding after
@@ -231,4 +231,4 @@ after-append s [] i = refl
 after-append s (j ∷ f) i = after-append (stepBy s j .after) f i
 
 pub renewed : Renewed
-renewed f g h k z = ap (λ (s : LineSet). run s g) (after-append newSet f h ∙ handover-after (after newSet f) h k z)
+renewed f g h k z = ap (λ (s : LineSet). run s g) (after-append newSet f h ∙ made-new (after newSet f) h k z)

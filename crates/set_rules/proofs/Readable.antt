@@ -52,7 +52,7 @@ use Rattle.set_state.specs.declared.state.LinkRequest.the-variants.{TellsTime, 
 use Rattle.set_state.specs.declared.state.Request.{Request}
 use Rattle.set_state.specs.declared.state.Request.the-variants.{OfLink, OnChannel, Foreign}
 use Rattle.laws.proofs.Table.{pick-each}
-use Rattle.set_rules.proofs.Answers.{refused, written, accepted-after, accepted-done}
+use Rattle.set_rules.proofs.Answers.{written, accepted-after, accepted-done, step-keeps}
 use Rattle.set_rules.proofs.Received.{toEachOne, eachOf, cut-records}
 use Rattle.set_rules.proofs.Rows.{no-row}
 
@@ -337,13 +337,8 @@ accepted-ok s ok e x a z =
     ▹ tt)
 
 step-ok : (s : LineSet) (i : Item) → SetOk s → SetOk (stepBy s i .after)
-step-ok s i ok = go (eqb (stepBy s i .refusal) 0) refl
-  where
-    go : (t : Bool) → eqb (stepBy s i .refusal) 0 ≡ t → SetOk (stepBy s i .after)
-    go true h =
-        let f = accepted-after s i (eqb-true _ 0 h) in
-        rw (f .1) (accepted-ok s ok (i .entry) (readEntry (i .entry)) (asked-ok (i .entry)) (f .0) .set-ok)
-    go false h = rw (refused s (i .entry) (length (i .buffer)) (λ p. false≢true (sym h ∙ eq-eqb _ 0 p)) .1) ok
+step-ok s i ok =
+    step-keeps SetOk s i ok (λ z. accepted-ok s ok (i .entry) (readEntry (i .entry)) (asked-ok (i .entry)) (accepted-after s i z .0) .set-ok)
 
 feed-ok : (s : LineSet) (f : List Item) → SetOk s → SetOk (after s f)
 unfolding after

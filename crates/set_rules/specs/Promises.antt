@@ -86,8 +86,12 @@ pub data Related (B : ℕ) : LineSet → LineSet → List Item → List Item →
 abbrev pub Isolated : Type 0
 Isolated = (B : ℕ) (f f′ : List Item) → Related B newSet newSet f f′ → views B newSet f ≡ views B newSet f′
 
--- 5. After any feed that ends with an accepted handover, whatever feed follows gets the same answers and the same bytes as
--- from a new set (`Answers.renewed`).
+-- 5. An accepted handover leaves a new set (`Answers.made-new`).
+abbrev pub HandoverMakesNew : Type 0
+HandoverMakesNew = (s : LineSet) (h : Item) → readEntry (h .entry) .kind ≡ 8 → stepBy s h .refusal ≡ 0 → stepBy s h .after ≡ newSet
+
+-- So after any feed that ends with one, whatever feed follows gets the same answers and the same bytes as from a new set
+-- (`Answers.renewed`).
 abbrev pub Renewed : Type 0
 Renewed =
     (f g : List Item) (h : Item) → readEntry (h .entry) .kind ≡ 8 → stepBy (after newSet f) h .refusal ≡ 0
