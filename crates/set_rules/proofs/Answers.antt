@@ -225,7 +225,7 @@ step-keeps P s i p q =
 pub made-new : HandoverMakesNew
 made-new s h k z = accepted-after s h z .1 ∙ handed-over s (h .entry) (readEntry (h .entry)) k
 
-after-append : (s : LineSet) (f : List Item) (i : Item) → after s (f ++ (i ∷ [])) ≡ stepBy (after s f) i .after
+pub after-append : (s : LineSet) (f : List Item) (i : Item) → after s (f ++ (i ∷ [])) ≡ stepBy (after s f) i .after
 unfolding after
 after-append s [] i = refl
 after-append s (j ∷ f) i = after-append (stepBy s j .after) f i

@@ -4,6 +4,8 @@ mod Isolation
 mod Witness
 mod Rows
 mod Readable
+mod Among
+mod Told
 mod Ticks
 mod Room
 mod Holdings

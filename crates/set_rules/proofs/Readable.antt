@@ -170,7 +170,7 @@ module _ (s : LineSet) (ok : SetOk s) where
   all-next [] o = tt
   all-next (c ∷ cs) o = (stays-ok Tick _ c tt (o .0) .next-ok, all-next cs (o .1))
 
-  planned-ok : Each ChannelOk (channelsOf s)
+  pub planned-ok : Each ChannelOk (channelsOf s)
   planned-ok = each-take ChannelOk (s .size .channels) (s .channels) (ok .channels-ok)
 
   tick-ok : EffectOk (onTick s)
@@ -254,10 +254,10 @@ plan-ok p h =
 
 -- ---- what an entry asks for
 
-record AskedOk (x : Entry) : Type 0 where
-  on-ok : x .on ≤ 1
-  base-ok : x .base ≤ 29
-  number-ok : NumberOk (numberIn (x .number))
+pub record AskedOk (x : Entry) : Type 0 where
+  pub on-ok : x .on ≤ 1
+  pub base-ok : x .base ≤ 29
+  pub number-ok : NumberOk (numberIn (x .number))
 
 number-in : (b : List ℕ) → length b ≤ 8 → NumberOk (numberIn (digitsIn b))
 number-in b l = go (leb (length b) 9 && allDigits b) refl
@@ -281,7 +281,7 @@ payload-number k e =
     (number-either (eqb k 4) _ _ (number-in (take 8 (drop 6 e)) (eight-taken (drop 6 e)))
     (number-either (eqb k 5) _ _ none-ok none-ok))))
 
-asked-ok : (e : List ℕ) → AskedOk (readEntry e)
+pub asked-ok : (e : List ℕ) → AskedOk (readEntry e)
 unfolding readEntry
 asked-ok e = go (measured e) (eqb (byte e 2) 1) (payloadOk (byte e 3) e) refl
   where
@@ -299,7 +299,7 @@ asked-ok e = go (measured e) (eqb (byte e 2) 1) (payloadOk (byte e 3) e) refl
     go false u v h = bad-ok 1
 
 -- an accepted plan keeps the rules of a plan: row 6
-plan-kept : (s : LineSet) (e : List ℕ) (x : Entry) → refusalOf s e x ≡ 0 → x .kind ≡ 7 → planOk (planIn e) ≡ true
+pub plan-kept : (s : LineSet) (e : List ℕ) (x : Entry) → refusalOf s e x ≡ 0 → x .kind ≡ 7 → planOk (planIn e) ≡ true
 plan-kept s e x z k = holds (planOk (planIn e)) (rw k at (no-row s e x z .row6-fails))
 
 -- an accepted press is the holder's, and off only while on: rows 14 and 15
@@ -307,10 +307,10 @@ pub held-by : (d : ℕ) (h : Party) → heldBy d h ≡ true → h ≡ By d
 held-by d Nobody e = absurd (false≢true e)
 held-by d (By h) e = ap By (eqb-true h d e)
 
-abbrev pressOf : LineSet → Entry → Bool → Event
+abbrev pub pressOf : LineSet → Entry → Bool → Event
 pressOf s x t = cond t (PressOn (x .desk) (ownOf (s .desks) (x .desk))) PressOff
 
-press-fits : (s : LineSet) → SetOk s → (e : List ℕ) (x : Entry) → x .on ≤ 1 → refusalOf s e x ≡ 0 → x .kind ≡ 2 → Fits (pressOf s x (eqb (x .on) 1)) (channelAt s (x .channel))
+pub press-fits : (s : LineSet) → SetOk s → (e : List ℕ) (x : Entry) → x .on ≤ 1 → refusalOf s e x ≡ 0 → x .kind ≡ 2 → Fits (pressOf s x (eqb (x .on) 1)) (channelAt s (x .channel))
 press-fits s ok e x l z k =
     let r = no-row s e x z in
     go (channelAt s (x .channel)) (rw k at (r .row14-fails)) (rw k at (r .row15-fails)) (eqb (x .on) 1) refl

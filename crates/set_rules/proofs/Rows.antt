@@ -11,7 +11,7 @@ use Rattle.laws.specs.Each.{Each}
 use Rattle.telegram.specs.Telegram.{readTelegram}
 use Rattle.telegram.specs.declared.message.Reading.{Reading}
 use Rattle.set_rules.specs.Entries.{telegramIn}
-use Rattle.set_rules.specs.Refusals.{Lookup, lookupIn, Test, askedIn, namedBy, row4, row5, row6, row12, row14, row15, firstOf, refusalOf, table}
+use Rattle.set_rules.specs.Refusals.{Lookup, lookupIn, Test, askedIn, namedBy, row4, row5, row6, row7, row11, row12, row14, row15, firstOf, refusalOf, table}
 use Rattle.laws.specs.Each.{Each}
 use Rattle.set_state.specs.declared.state.LineSet.{LineSet}
 use Rattle.set_state.specs.declared.state.Entry.{Entry}
@@ -58,6 +58,8 @@ module _ (s : LineSet) (e : List ℕ) (x : Entry) where
     pub row4-fails : fails row4
     pub row5-fails : fails row5
     pub row6-fails : fails row6
+    pub row7-fails : fails row7
+    pub row11-fails : fails row11
     pub row12-fails : fails row12
     pub row14-fails : fails row14
     pub row15-fails : fails row15
@@ -65,5 +67,16 @@ module _ (s : LineSet) (e : List ℕ) (x : Entry) where
   pub no-row : refusalOf s e x ≡ 0 → NoRow
   no-row z =
       let t = rows-fail z in
-      let from12 = t .1 .1 .1 .1 .1 .1 .1 .1 in
-      record { row4-fails = t .0; row5-fails = t .1 .0; row6-fails = t .1 .1 .0; row12-fails = from12 .0; row14-fails = from12 .1 .1 .0; row15-fails = from12 .1 .1 .1 .0 }
+      let from7 = t .1 .1 .1 in
+      let from11 = from7 .1 .1 .1 .1 in
+      let from14 = from11 .1 .1 .1 in
+      record {
+        row4-fails = t .0;
+        row5-fails = t .1 .0;
+        row6-fails = t .1 .1 .0;
+        row7-fails = from7 .0;
+        row11-fails = from11 .0;
+        row12-fails = from11 .1 .0;
+        row14-fails = from14 .0;
+        row15-fails = from14 .1 .0;
+      }
