@@ -9,13 +9,12 @@ use lib.Dec.{eqb, ltb}
 use borrow.Author.Tests.{eqb-true, eqb-false, ne-eqb}
 use Rattle.laws.proofs.Tests.{by-test}
 use Rattle.channel.specs.State.{isIn, only}
+use Rattle.channel.proofs.Kept.{none-above}
 use Rattle.line_rules.specs.Promises.{OnlyOther}
 
 -- nobody is in the empty set
 none-in : (j : ℕ) → isIn j 0 ≡ false
-unfolding isIn
-none-in zero = refl
-none-in (suc j) = none-in j
+none-in j = none-above 0 j 0 (omega arith) (omega arith)
 
 power-other : (B d : ℕ) → (d ≡ B → ⊥) → isIn B (2 ^ d) ≡ false
 unfolding isIn

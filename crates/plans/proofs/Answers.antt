@@ -21,7 +21,7 @@ use Rattle.plans.specs.declared.desks.Desks.{Desks}
 use Rattle.plans.specs.declared.channels.Channels.{Channels}
 use Rattle.plans.specs.declared.plan.Counts.the-variants.{Are, Bad as BadCounts}
 use Rattle.plans.proofs.Filled.{take-filled}
-use Rattle.plans.proofs.Turns.{length-desks}
+use Rattle.set_rules.proofs.Kept.{length-desks}
 
 counts-none : (k : Size) → Are k ≡ BadCounts → ⊥
 counts-none k q = let z : _≡_ {A = ℕ} 0 1 = cc in omega arith

@@ -1,12 +1,12 @@
 -- One turn of the loops that read the desks and the channels of a plan: the item at i, and those after it.
 -- Assumes nothing.
-use Prim.Native.Nat.{ℕ, zero, suc, _+_, _-_, _≤_, _<_}
+use Prim.Native.Nat.{ℕ, suc, _+_, _-_, _≤_, _<_}
 use mathlib.Core.List.{List, [], _∷_}
 use mathlib.Core.Bool.{true, _&&_}
-use mathlib.Core.Path.{_≡_, refl, ap}
+use mathlib.Core.Path.{_≡_}
 use native.Mathlib.Omega.{arith}
 use native.Mathlib.Nat.{add-zero}
-use lib.ListN.{length, drop, getD}
+use lib.ListN.{drop, getD}
 use lib.Seq.{drop-drop, getD-drop}
 use lib.Dec.{leb}
 use borrow.Author.Tests.{leb-true}
@@ -15,16 +15,6 @@ use Rattle.fields.specs.Fields.{between}
 use Rattle.channel.specs.State.{freeChannel, firstDesks}
 use Rattle.set_rules.specs.Plan.{deskOk, desksOk, desksIn, channelsOk, channelsIn}
 use Rattle.plans.specs.Planned.{deskOf}
-
-pub length-desks : (n : ℕ) (b : List ℕ) → length (desksIn n b) ≡ n
-unfolding desksIn
-length-desks zero b = refl
-length-desks (suc n) b = ap suc (length-desks n (drop 10 b))
-
-pub length-channels : (n : ℕ) (b : List ℕ) → length (channelsIn n b) ≡ n
-unfolding channelsIn
-length-channels zero b = refl
-length-channels (suc n) b = ap suc (length-channels n (drop 2 b))
 
 -- the places left fall by one
 module _ (n i : ℕ) (h : i < n) where

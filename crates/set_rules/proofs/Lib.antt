@@ -4,6 +4,7 @@ mod Isolation
 mod Witness
 mod Rows
 mod Readable
+mod Shape
 mod Among
 mod Told
 mod Ticks

@@ -234,10 +234,10 @@ channels-in : (n low desks : ℕ) (b : List ℕ) → channelsOk n low desks b �
 unfolding channelsOk channelsIn
 channels-in zero low desks b h = tt
 channels-in (suc n) low desks b h =
-    let a = both (between low 99 (byte b 0) && between 1 (firstDesks desks) (byte b 1)) (channelsOk n (byte b 0 + 1) desks (drop 2 b)) h in
-    let f = both (between low 99 (byte b 0)) (between 1 (firstDesks desks) (byte b 1)) (a .0) in
-    let g = both (leb low (byte b 0)) (leb (byte b 0) 99) (f .0) in
-    (free-is-ok (byte b 0) (byte b 1) (leb-true _ _ (g .1)), channels-in n (byte b 0 + 1) desks (drop 2 b) (a .1))
+    let a = both _ _ h in
+    let f = both _ _ (a .0) in
+    let g = both (leb low (byte b 0)) _ (f .0) in
+    (free-is-ok (byte b 0) (byte b 1) (leb-true _ _ (g .1)), channels-in n _ desks (drop 2 b) (a .1))
 
 plan-ok : (p : List ℕ) → planOk p ≡ true → EffectOk (onPlan p)
 unfolding planOk setOf allIn
@@ -249,7 +249,7 @@ plan-ok p h =
     let ds = desks-in (deskCount p) (desksPart p) (g .1) in
     let cs = channels-in (channelCount p) 0 (deskCount p) (channelsPart p) (a .1) in
     let d = each-append DeskOk (desksIn (deskCount p) (desksPart p)) _ ds (no-desks (4 - length (desksIn (deskCount p) (desksPart p)))) in
-    let c = each-append ChannelOk (channelsIn (channelCount p) (channelsPart p)) _ cs (no-channels (32 - length (channelsIn (channelCount p) (channelsPart p)))) in
+    let c = each-append ChannelOk (channelsIn (channelCount p) (channelsPart p)) _ cs (each-same ChannelOk (32 - length (channelsIn (channelCount p) (channelsPart p))) _ (free-is-ok _ 0 (leb-true _ 99 refl))) in
     record { set-ok = record { desks-ok = d; channels-ok = c }; sent-ok = plain-reads (setOf p .desks) d (firstDesks (deskCount p)) TimeRequest refl }
 
 -- ---- what an entry asks for

@@ -35,7 +35,7 @@ use Rattle.line_rules.specs.Among.{AllListen, CallTold, ArrivalTold, Among}
 use Rattle.line_rules.proofs.Kept.{only-other}
 use Rattle.set_state.specs.State.{newSet, noDesk, noChannel, isRunning, listenersOf, channelsOf, placeIn, channelAt}
 use Rattle.set_state.specs.Bytes.{byte}
-use Rattle.set_state.specs.Promises.{ListenersExactly}
+use Rattle.set_state.proofs.Kept.{listeners-exactly}
 use Rattle.set_state.specs.declared.state.Desk.{Desk}
 use Rattle.set_state.specs.declared.state.LineSet.{LineSet}
 use Rattle.set_state.specs.declared.state.Entry.{Entry}
@@ -49,7 +49,9 @@ use Rattle.set_rules.specs.Records.{Delivery, delivered, spaceOf}
 use Rattle.set_rules.specs.SetRules.{Effect, onChannel, sendsOf, tickSends, endSends, onTick, onHandover, onPlan, onRequest, ways, accepted}
 use Rattle.set_rules.specs.Feeds.{Item, outcomeOf, stepOf, after}
 use Rattle.set_rules.specs.Invariant.{Shaped, aroundOf}
-use Rattle.set_rules.specs.Promises.{roomEnough, Roomy, AlwaysShaped, AlwaysAmong, Brings}
+use Rattle.set_rules.specs.Promises.{roomEnough, Roomy, Brings}
+use Rattle.set_rules.proofs.Shape.{always-shaped}
+use Rattle.set_rules.proofs.Told.{always-among}
 
 -- ---- how many desks a set has
 
@@ -381,36 +383,34 @@ among-few s shaped c a = record { call-few = call (c .call) (a .call-told); arri
     arrival Absent t = tt
     arrival (Present k m b n) t = told m (t .listen)
 
--- TO BE CITED: the three parameters
-module _ (always-shaped : AlwaysShaped) (always-among : AlwaysAmong) (listeners-exactly : ListenersExactly) where
-  listeners-few : (s : LineSet) → Shaped s → (c : Channel) → onesIn 8 (listenersOf (s .desks) (s .size .desks) c) ≤ 4
-  listeners-few s shaped c =
-      let e = listenersOf (s .desks) (s .size .desks) c in
-      let short : length (s .desks) ≤ 8 = omega (arith, shaped .four-desks) in
-      le-trans
-      (ones-most 8 (s .size .desks) e (λ d i.
-      there (s .desks) (s .size .desks) d (both _ (isIn d (c .entitled)) (sym (listeners-exactly (s .desks) (s .size .desks) c d short) ∙ i) .0)))
-      (shaped .desks-most)
+listeners-few : (s : LineSet) → Shaped s → (c : Channel) → onesIn 8 (listenersOf (s .desks) (s .size .desks) c) ≤ 4
+listeners-few s shaped c =
+    let e = listenersOf (s .desks) (s .size .desks) c in
+    let short : length (s .desks) ≤ 8 = omega (arith, shaped .four-desks) in
+    le-trans
+    (ones-most 8 (s .size .desks) e (λ d i.
+    there (s .desks) (s .size .desks) d (both _ (isIn d (c .entitled)) (sym (listeners-exactly (s .desks) (s .size .desks) c d short) ∙ i) .0)))
+    (shaped .desks-most)
 
-  room-after : (f : List Item) (e : List ℕ) (x : Entry) → spaceOf (accepted (after newSet f) e x .sent) ≤ roomEnough
-  room-after f e x =
-      let s = after newSet f in
-      let shaped = always-shaped f in
-      let few = each-map (Among (aroundOf s Any)) Few (among-few s shaped) (s .channels) (always-among Any f (brought f)) in
-      accepted-room s shaped few (listeners-few s shaped) e x
+room-after : (f : List Item) (e : List ℕ) (x : Entry) → spaceOf (accepted (after newSet f) e x .sent) ≤ roomEnough
+room-after f e x =
+    let s = after newSet f in
+    let shaped = always-shaped f in
+    let few = each-map (Among (aroundOf s Any)) Few (among-few s shaped) (s .channels) (always-among Any f (brought f)) in
+    accepted-room s shaped few (listeners-few s shaped) e x
 
-  pub roomy : Roomy
-  unfolding outcomeOf stepOf
-  roomy f i l z =
-      go (eqb (refusalOf s (i .entry) x) 0) refl (leb (spaceOf (accepted s (i .entry) x .sent)) (length (i .buffer))) refl
-    where
-      s : LineSet
-      s = after newSet f
+pub roomy : Roomy
+unfolding outcomeOf stepOf
+roomy f i l z =
+    go (eqb (refusalOf s (i .entry) x) 0) refl (leb (spaceOf (accepted s (i .entry) x .sent)) (length (i .buffer))) refl
+  where
+    s : LineSet
+    s = after newSet f
 
-      x : Entry
-      x = readEntry (i .entry)
+    x : Entry
+    x = readEntry (i .entry)
 
-      go : (t : Bool) → eqb (refusalOf s (i .entry) x) 0 ≡ t → (u : Bool) → leb (spaceOf (accepted s (i .entry) x .sent)) (length (i .buffer)) ≡ u → ⊥
-      go true k true m = omega (arith, rw (k, m) at z)
-      go true k false m = omega (arith, l, leb-false (spaceOf (accepted s (i .entry) x .sent)) (length (i .buffer)) m, room-after f (i .entry) x)
-      go false k u m = omega (arith, rw k at z, refusal-most s (i .entry))
+    go : (t : Bool) → eqb (refusalOf s (i .entry) x) 0 ≡ t → (u : Bool) → leb (spaceOf (accepted s (i .entry) x .sent)) (length (i .buffer)) ≡ u → ⊥
+    go true k true m = omega (arith, rw (k, m) at z)
+    go true k false m = omega (arith, l, leb-false (spaceOf (accepted s (i .entry) x .sent)) (length (i .buffer)) m, room-after f (i .entry) x)
+    go false k u m = omega (arith, rw k at z, refusal-most s (i .entry))

@@ -28,7 +28,7 @@ use Rattle.line_rules.specs.Among.{Around, Listens, AllListen, Among, FitsAmong
 use Rattle.line_rules.proofs.Kept.{free-is-among, stays-among}
 use Rattle.set_state.specs.State.{newSet, noDesk, noChannel, channelsOf, placeIn, hasChannel, channelAt, listenersOf, timeTold, answered, withLink}
 use Rattle.set_state.specs.Bytes.{byte}
-use Rattle.set_state.specs.Promises.{ListenersExactly}
+use Rattle.set_state.proofs.Kept.{listeners-exactly}
 use Rattle.set_state.specs.declared.state.Link.{Link}
 use Rattle.set_state.specs.declared.state.Desk.{Desk}
 use Rattle.set_state.specs.declared.state.LineSet.{LineSet}
@@ -44,9 +44,10 @@ use Rattle.set_rules.specs.SetRules.{Effect, movedIn, onChannel, sendsOf
 use Rattle.set_rules.specs.Feeds.{Item, stepBy, after, cutUp, writtenIn}
 use Rattle.set_rules.specs.Letters.{letterFor, lettersTo, lettersOf, lettersIn}
 use Rattle.set_rules.specs.Invariant.{SetOk, Shaped, aroundOf, AllAmong}
-use Rattle.set_rules.specs.Promises.{Right, AlwaysShaped, Readable, Brings, AlwaysAmong, servedBy, ToldRight}
+use Rattle.set_rules.specs.Promises.{Right, Brings, AlwaysAmong, servedBy, ToldRight}
 use Rattle.set_rules.proofs.Rows.{NoRow, no-row}
-use Rattle.set_rules.proofs.Readable.{AskedOk, at-ok, planned-ok, plan-kept, pressOf, press-fits, asked-ok, always-ok}
+use Rattle.set_rules.proofs.Readable.{AskedOk, at-ok, planned-ok, plan-kept, pressOf, press-fits, asked-ok, always-ok, readable}
+use Rattle.set_rules.proofs.Shape.{always-shaped}
 use Rattle.set_rules.proofs.Answers.{refused, accepted-after, after-append}
 use Rattle.set_rules.proofs.Among.{first-in, only-is, place-code, Found, rising-found, running-in, own-linked, runsAt, runs-linked, among-more, Heard, Tells, sends-heard, OnEvent, asked-in}
 
@@ -95,201 +96,199 @@ module _ (s : LineSet) (M : Number → Type 0) (ds : List Desk) where
   letters-right [] h = tt
   letters-right (v ∷ vs) h = each-append (Right s M) (lettersTo 8 0 ds v) (lettersOf ds vs) (letters-to 8 0 v (h .0)) (letters-right vs (h .1))
 
--- TO BE CITED: `always-shaped`, `listeners-exactly` and `readable`
-module _ (always-shaped : AlwaysShaped) (listeners-exactly : ListenersExactly) (readable : Readable) where
-  module _ (M : Number → Type 0) (s : LineSet) (ok : SetOk s) (shaped : Shaped s) (among : AllAmong M s) where
-    abbrev around : Around
-    around = aroundOf s M
+module _ (M : Number → Type 0) (s : LineSet) (ok : SetOk s) (shaped : Shaped s) (among : AllAmong M s) where
+  abbrev around : Around
+  around = aroundOf s M
 
-    all-listen : (c : Channel) → AllListen around c (listenersOf (s .desks) (s .size .desks) c)
-    all-listen c d h =
-        let exactly = listeners-exactly (s .desks) (s .size .desks) c d (omega (arith, shaped .four-desks)) in
-        let b = both (runsAt (take (s .size .desks) (s .desks)) d) (isIn d (c .entitled)) (sym exactly ∙ h) in
-        (running-in s d (b .0), b .1)
+  all-listen : (c : Channel) → AllListen around c (listenersOf (s .desks) (s .size .desks) c)
+  all-listen c d h =
+      let exactly = listeners-exactly (s .desks) (s .size .desks) c d (omega (arith, shaped .four-desks)) in
+      let b = both (runsAt (take (s .size .desks) (s .desks)) d) (isIn d (c .entitled)) (sym exactly ∙ h) in
+      (running-in s d (b .0), b .1)
 
-    moves : (v : Event) (c : Channel) → Fits v c → FitsAmong around v c → ChannelOk c → Among around c → StepAmong around c (movedIn (s .desks) (s .size .desks) v c)
-    moves v c h g o a = stays-among around v (listenersOf (s .desks) (s .size .desks) c) c h g (all-listen c) o a
+  moves : (v : Event) (c : Channel) → Fits v c → FitsAmong around v c → ChannelOk c → Among around c → StepAmong around c (movedIn (s .desks) (s .size .desks) v c)
+  moves v c h g o a = stays-among around v (listenersOf (s .desks) (s .size .desks) c) c h g (all-listen c) o a
 
-    -- one channel, by its code
-    at-among : (ch : ℕ) → Among around (channelAt s ch)
-    at-among ch =
-        each-at (Among around) (channelsOf s) noChannel (each-take (Among around) (s .size .channels) (s .channels) among) (free-is-among around 0 0) (placeIn s ch)
+  -- one channel, by its code
+  at-among : (ch : ℕ) → Among around (channelAt s ch)
+  at-among ch =
+      each-at (Among around) (channelsOf s) noChannel (each-take (Among around) (s .size .channels) (s .channels) among) (free-is-among around 0 0) (placeIn s ch)
 
-    on-tells : (ch : ℕ) (v : Event) → hasChannel s ch ≡ true → Fits v (channelAt s ch) → FitsAmong around v (channelAt s ch) → Tells M s (onChannel s ch v)
-    unfolding onChannel
-    on-tells ch v has h g =
-        let c = channelAt s ch in
-        let k = moves v c h g (at-ok s ok ch) (at-among ch) in
-        let found : channelAt s (c .code) ≡ c = ap (channelAt s) (place-code ch (channelsOf s) (ltb-true _ _ has)) in
-        record {
-          among-after = each-set (Among around) (s .channels) (placeIn s ch) _ among (k .next-among);
-          sent-right = sends-heard s M c found _ (k .sends-told);
-        }
+  on-tells : (ch : ℕ) (v : Event) → hasChannel s ch ≡ true → Fits v (channelAt s ch) → FitsAmong around v (channelAt s ch) → Tells M s (onChannel s ch v)
+  unfolding onChannel
+  on-tells ch v has h g =
+      let c = channelAt s ch in
+      let k = moves v c h g (at-ok s ok ch) (at-among ch) in
+      let found : channelAt s (c .code) ≡ c = ap (channelAt s) (place-code ch (channelsOf s) (ltb-true _ _ has)) in
+      record {
+        among-after = each-set (Among around) (s .channels) (placeIn s ch) _ among (k .next-among);
+        sent-right = sends-heard s M c found _ (k .sends-told);
+      }
 
-    -- all channels of the plan
-    abbrev Here : Channel → Type 0
-    Here c = (ChannelOk c × Among around c) × ((0 ≤ c .code) × Found (channelsOf s) c)
+  -- all channels of the plan
+  abbrev Here : Channel → Type 0
+  Here c = (ChannelOk c × Among around c) × ((0 ≤ c .code) × Found (channelsOf s) c)
 
-    all-here : Each Here (channelsOf s)
-    all-here =
-        each-both _ _ (channelsOf s)
-        (each-both ChannelOk (Among around) (channelsOf s) (planned-ok s ok) (each-take (Among around) (s .size .channels) (s .channels) among))
-        (rising-found 0 (channelsOf s) (shaped .codes-rise))
+  all-here : Each Here (channelsOf s)
+  all-here =
+      each-both _ _ (channelsOf s)
+      (each-both ChannelOk (Among around) (channelsOf s) (planned-ok s ok) (each-take (Among around) (s .size .channels) (s .channels) among))
+      (rising-found 0 (channelsOf s) (shaped .codes-rise))
 
-    all-heard : (f : Channel → List Send) → ((c : Channel) → Here c → Each (SendTold around c) (f c)) → (cs : List Channel) → Each Here cs
-        → Each (Heard s M (s .desks)) (sendsOf (s .desks) f cs)
-    unfolding sendsOf
-    all-heard f h [] o = tt
-    all-heard f h (c ∷ cs) o =
-        each-append (Heard s M (s .desks)) (delivered (s .desks) (c .code) (f c)) (sendsOf (s .desks) f cs)
-        (sends-heard s M c (o .0 .1 .1) (f c) (h c (o .0)))
-        (all-heard f h cs (o .1))
+  all-heard : (f : Channel → List Send) → ((c : Channel) → Here c → Each (SendTold around c) (f c)) → (cs : List Channel) → Each Here cs
+      → Each (Heard s M (s .desks)) (sendsOf (s .desks) f cs)
+  unfolding sendsOf
+  all-heard f h [] o = tt
+  all-heard f h (c ∷ cs) o =
+      each-append (Heard s M (s .desks)) (delivered (s .desks) (c .code) (f c)) (sendsOf (s .desks) f cs)
+      (sends-heard s M c (o .0 .1 .1) (f c) (h c (o .0)))
+      (all-heard f h cs (o .1))
 
-    all-next : (cs : List Channel) → Each Here cs → Each (Among around) (map (ticked (s .desks) (s .size .desks)) cs)
-    all-next [] o = tt
-    all-next (c ∷ cs) o = (moves Tick c tt tt (o .0 .0 .0) (o .0 .0 .1) .next-among, all-next cs (o .1))
+  all-next : (cs : List Channel) → Each Here cs → Each (Among around) (map (ticked (s .desks) (s .size .desks)) cs)
+  all-next [] o = tt
+  all-next (c ∷ cs) o = (moves Tick c tt tt (o .0 .0 .0) (o .0 .0 .1) .next-among, all-next cs (o .1))
 
-    tick-tells : Tells M s (onTick s)
-    unfolding onTick
-    tick-tells = record {
-      among-after = each-append (Among around) (map (ticked (s .desks) (s .size .desks)) (channelsOf s)) _ (all-next (channelsOf s) all-here) (each-drop (Among around) (s .size .channels) (s .channels) among);
-      sent-right = all-heard (tickSends (s .desks) (s .size .desks)) (λ c o. moves Tick c tt tt (o .0 .0) (o .0 .1) .sends-told) (channelsOf s) all-here;
-    }
+  tick-tells : Tells M s (onTick s)
+  unfolding onTick
+  tick-tells = record {
+    among-after = each-append (Among around) (map (ticked (s .desks) (s .size .desks)) (channelsOf s)) _ (all-next (channelsOf s) all-here) (each-drop (Among around) (s .size .channels) (s .channels) among);
+    sent-right = all-heard (tickSends (s .desks) (s .size .desks)) (λ c o. moves Tick c tt tt (o .0 .0) (o .0 .1) .sends-told) (channelsOf s) all-here;
+  }
 
-    ended-told : (c : Channel) → Here c → Each (SendTold around c) (endSends (s .desks) (s .size .desks) c)
-    ended-told c o =
-        each-append (SendTold around c) (movedIn (s .desks) (s .size .desks) EndTalk c .sends) (movedIn (s .desks) (s .size .desks) EndCall c .sends)
-        (moves EndTalk c tt tt (o .0 .0) (o .0 .1) .sends-told)
-        (moves EndCall c tt tt (o .0 .0) (o .0 .1) .sends-told)
+  ended-told : (c : Channel) → Here c → Each (SendTold around c) (endSends (s .desks) (s .size .desks) c)
+  ended-told c o =
+      each-append (SendTold around c) (movedIn (s .desks) (s .size .desks) EndTalk c .sends) (movedIn (s .desks) (s .size .desks) EndCall c .sends)
+      (moves EndTalk c tt tt (o .0 .0) (o .0 .1) .sends-told)
+      (moves EndCall c tt tt (o .0 .0) (o .0 .1) .sends-told)
 
-    handover-tells : Tells M s (onHandover s)
-    unfolding onHandover
-    handover-tells = record { among-after = fillers (aroundOf newSet M) 32; sent-right = all-heard (endSends (s .desks) (s .size .desks)) ended-told (channelsOf s) all-here }
+  handover-tells : Tells M s (onHandover s)
+  unfolding onHandover
+  handover-tells = record { among-after = fillers (aroundOf newSet M) 32; sent-right = all-heard (endSends (s .desks) (s .size .desks)) ended-told (channelsOf s) all-here }
 
-    -- a link that changes is of a desk that does not run yet
-    linked-among : (d : ℕ) (f : Link → Link) → runsAt (s .desks) d ≡ false → AllAmong M (withLink d f s)
-    linked-among d f n =
-        each-map (Among around) (Among (aroundOf (withLink d f s) M))
-        (among-more M s (withLink d f s) (λ j r. (r .0, runs-linked d j f (s .desks) n (r .1))) (λ j. own-linked d j f (s .desks)))
-        (s .channels) among
+  -- a link that changes is of a desk that does not run yet
+  linked-among : (d : ℕ) (f : Link → Link) → runsAt (s .desks) d ≡ false → AllAmong M (withLink d f s)
+  linked-among d f n =
+      each-map (Among around) (Among (aroundOf (withLink d f s) M))
+      (among-more M s (withLink d f s) (λ j r. (r .0, runs-linked d j f (s .desks) n (r .1))) (λ j. own-linked d j f (s .desks)))
+      (s .channels) among
 
-    -- telegrams, by the rows 7, 11 and 12
-    abbrev FitsBy : ℕ → Event → Type 0
-    FitsBy d v = (c : Channel) → Listens around c d → Fits v c × FitsAmong around v c
+  -- telegrams, by the rows 7, 11 and 12
+  abbrev FitsBy : ℕ → Event → Type 0
+  FitsBy d v = (c : Channel) → Listens around c d → Fits v c × FitsAmong around v c
 
-    in-phase : (d k : ℕ) → getD (s .desks) d noDesk .link .phase ≡ k → (k ≡ 3 → ⊥) → runsAt (s .desks) d ≡ false
-    in-phase d k p n = ne-eqb _ 3 (λ q. n (sym p ∙ q))
+  in-phase : (d k : ℕ) → getD (s .desks) d noDesk .link .phase ≡ k → (k ≡ 3 → ⊥) → runsAt (s .desks) d ≡ false
+  in-phase d k p n = ne-eqb _ 3 (λ q. n (sym p ∙ q))
 
-    request-tells : (d : ℕ) (q : Request) → OnEvent (FitsBy d) q → d < s .size .desks → getD (s .desks) d noDesk .link .phase ≡ phaseOf q
-        → named true (λ ch n. mayUse (lookupIn s (channelIn q)) d) q ≡ true → Tells M s (onRequest s d q)
-    request-tells d (OfLink TellsTime) h l p u =
-        let to-it : Heard s M (s .desks) (record { recipients = only d; content = λ j. telegram OperationRequest }) =
-        λ j i. (rw (← only-is j d i) l, (refl, (tt, tt))) in
-        record { among-after = linked-among d timeTold (in-phase d 1 p (λ z. omega arith)); sent-right = (to-it, tt) }
-    request-tells d (OfLink (TellsState a)) h l p u = record { among-after = linked-among d (answered a) (in-phase d 2 p (λ z. omega arith)); sent-right = tt }
-    request-tells d (OnChannel ch n v) h l p u =
-        let b = both (hasChannel s ch) (isIn d (channelAt s ch .entitled)) u in
-        let fits = h (channelAt s ch) ((l, eq-eqb _ 3 p), b .1) in
-        on-tells ch v (b .0) (fits .0) (fits .1)
-    request-tells d Foreign h l p u = record { among-after = among; sent-right = tt }
+  request-tells : (d : ℕ) (q : Request) → OnEvent (FitsBy d) q → d < s .size .desks → getD (s .desks) d noDesk .link .phase ≡ phaseOf q
+      → named true (λ ch n. mayUse (lookupIn s (channelIn q)) d) q ≡ true → Tells M s (onRequest s d q)
+  request-tells d (OfLink TellsTime) h l p u =
+      let to-it : Heard s M (s .desks) (record { recipients = only d; content = λ j. telegram OperationRequest }) =
+      λ j i. (rw (← only-is j d i) l, (refl, (tt, tt))) in
+      record { among-after = linked-among d timeTold (in-phase d 1 p (λ z. omega arith)); sent-right = (to-it, tt) }
+  request-tells d (OfLink (TellsState a)) h l p u = record { among-after = linked-among d (answered a) (in-phase d 2 p (λ z. omega arith)); sent-right = tt }
+  request-tells d (OnChannel ch n v) h l p u =
+      let b = both (hasChannel s ch) (isIn d (channelAt s ch .entitled)) u in
+      let fits = h (channelAt s ch) ((l, eq-eqb _ 3 p), b .1) in
+      on-tells ch v (b .0) (fits .0) (fits .1)
+  request-tells d Foreign h l p u = record { among-after = among; sent-right = tt }
 
-    -- ---- every accepted entry
+  -- ---- every accepted entry
 
-    module _ (e : List ℕ) (x : Entry) (a : AskedOk x) (brings : x .kind ≡ 4 → M (numberIn (x .number))) (z : refusalOf s e x ≡ 0) where
-      rows : NoRow s e x
-      rows = no-row s e x z
+  module _ (e : List ℕ) (x : Entry) (a : AskedOk x) (brings : x .kind ≡ 4 → M (numberIn (x .number))) (z : refusalOf s e x ≡ 0) where
+    rows : NoRow s e x
+    rows = no-row s e x z
 
-      telegram-tells : x .kind ≡ 1 → Tells M s (onRequest s (x .desk) (askedIn (x .desk) (readTelegram (telegramIn e))))
-      telegram-tells k =
-          let d = x .desk in
-          let r = readTelegram (telegramIn e) in
-          request-tells d (askedIn d r) (asked-in (FitsBy d) d (λ c l. (tt, l)) (λ c l. (tt, l)) r)
-          (ltb-true _ _ (not-false _ (rw k at (rows .row7-fails))))
-          (eqb-true _ _ (not-false _ (rw k at (rows .row11-fails))))
-          (not-false _ (rw k at (rows .row12-fails)))
+    telegram-tells : x .kind ≡ 1 → Tells M s (onRequest s (x .desk) (askedIn (x .desk) (readTelegram (telegramIn e))))
+    telegram-tells k =
+        let d = x .desk in
+        let r = readTelegram (telegramIn e) in
+        request-tells d (askedIn d r) (asked-in (FitsBy d) d (λ c l. (tt, l)) (λ c l. (tt, l)) r)
+        (ltb-true _ _ (not-false _ (rw k at (rows .row7-fails))))
+        (eqb-true _ _ (not-false _ (rw k at (rows .row11-fails))))
+        (not-false _ (rw k at (rows .row12-fails)))
 
-      -- a press goes by the desk's own number
-      press-among : (t : Bool) (c : Channel) → FitsAmong around (pressOf s x t) c
-      press-among true c = refl
-      press-among false c = tt
+    -- a press goes by the desk's own number
+    press-among : (t : Bool) (c : Channel) → FitsAmong around (pressOf s x t) c
+    press-among true c = refl
+    press-among false c = tt
 
-      used : (d : ℕ) → not (mayUse (lookupIn s (x .channel)) d) ≡ false → hasChannel s (x .channel) ≡ true
-      used d h = both (hasChannel s (x .channel)) _ (not-false _ h) .0
+    used : (d : ℕ) → not (mayUse (lookupIn s (x .channel)) d) ≡ false → hasChannel s (x .channel) ≡ true
+    used d h = both (hasChannel s (x .channel)) _ (not-false _ h) .0
 
-      -- by the set served: an entry other than a plan finds one, and a plan finds none (rows 4 and 5)
-      abbrev TellsFor : Effect → Type 0
-      TellsFor f = Tells M (cond (s .planned) s (f .after)) f
+    -- by the set served: an entry other than a plan finds one, and a plan finds none (rows 4 and 5)
+    abbrev TellsFor : Effect → Type 0
+    TellsFor f = Tells M (cond (s .planned) s (f .after)) f
 
-      served : (f : Effect) → eqb (x .kind) 7 ≡ false → Tells M s f → TellsFor f
-      served f k h = go (s .planned) (eqb (x .kind) 7) k (rows .row4-fails)
-        where
-          go : (t u : Bool) → u ≡ false → (not t && not u) ≡ false → Tells M (cond t s (f .after)) f
-          go true u p n = h
-          go false false p n = absurd (false≢true (sym n))
-          go false true p n = absurd (false≢true (sym p))
-
-      made : x .kind ≡ 7 → TellsFor (onPlan (planIn e))
-      made k = go (s .planned) (rw k at (rows .row5-fails))
-        where
-          go : (t : Bool) → (t && true) ≡ false → Tells M (cond t s (setOf (planIn e))) (onPlan (planIn e))
-          go true n = absurd (false≢true (sym n))
-          go false n = plan-tells M (planIn e) (plan-kept s e x z k)
-
-      pub accepted-tells : TellsFor (accepted s e x)
-      unfolding accepted
-      accepted-tells =
-          pick-each TellsFor (x .kind) _ (ways s e x) (record { among-after = among; sent-right = tt })
-          ((λ k. served _ (rw k) (telegram-tells k))
-          ▹ (λ k. served _ (rw k) (on-tells (x .channel) _ (used (x .desk) (rw k at (rows .row12-fails))) (press-fits s ok e x (a .on-ok) z k) (press-among (eqb (x .on) 1) _)))
-          ▹ (λ k. served _ (rw k) (on-tells (x .channel) Cut (used (x .desk) (rw k at (rows .row12-fails))) tt tt))
-          ▹ (λ k. served _ (rw k) (on-tells (x .channel) _ (not-false _ (rw k at (rows .row12-fails))) (a .base-ok, a .number-ok) (brings k)))
-          ▹ (λ k. served _ (rw k) (on-tells (x .channel) MobileOff (not-false _ (rw k at (rows .row12-fails))) tt tt))
-          ▹ (λ k. served _ (rw k) tick-tells)
-          ▹ made
-          ▹ (λ k. served _ (rw k) handover-tells)
-          ▹ tt)
-
-  -- ---- every entry, every feed
-
-  abbrev stateOf : List Item → LineSet
-  stateOf = after newSet
-
-  module _ (M : Number → Type 0) where
-    abbrev effectOf : LineSet → Item → Effect
-    effectOf s i = accepted s (i .entry) (readEntry (i .entry))
-
-    item-tells : (f : List Item) (i : Item) → AllAmong M (stateOf f) → Brings M i → stepBy (stateOf f) i .refusal ≡ 0
-        → Tells M (servedBy (stateOf f) (stepBy (stateOf f) i)) (effectOf (stateOf f) i)
-    item-tells f i among b z =
-        let s = stateOf f in
-        let k = accepted-after s i z in
-        rw (k .1) (accepted-tells M s (always-ok f) (always-shaped f) among (i .entry) (readEntry (i .entry)) (asked-ok (i .entry)) b (k .0))
-
-    step-among : (f : List Item) (i : Item) → AllAmong M (stateOf f) → Brings M i → AllAmong M (stepBy (stateOf f) i .after)
-    step-among f i among b = go (eqb (stepBy (stateOf f) i .refusal) 0) refl
+    served : (f : Effect) → eqb (x .kind) 7 ≡ false → Tells M s f → TellsFor f
+    served f k h = go (s .planned) (eqb (x .kind) 7) k (rows .row4-fails)
       where
-        go : (t : Bool) → eqb (stepBy (stateOf f) i .refusal) 0 ≡ t → AllAmong M (stepBy (stateOf f) i .after)
-        go true h = let z = eqb-true _ 0 h in rw (accepted-after (stateOf f) i z .1) (item-tells f i among b z .among-after)
-        go false h = rw (refused (stateOf f) (i .entry) (length (i .buffer)) (eqb-false _ 0 h) .1) among
+        go : (t u : Bool) → u ≡ false → (not t && not u) ≡ false → Tells M (cond t s (f .after)) f
+        go true u p n = h
+        go false false p n = absurd (false≢true (sym n))
+        go false true p n = absurd (false≢true (sym p))
 
-    feed-among : (g f : List Item) → Each (Brings M) f → AllAmong M (stateOf g) → AllAmong M (after (stateOf g) f)
-    unfolding after
-    feed-among g [] b among = among
-    feed-among g (i ∷ f) b among =
-        let next = after-append newSet g i in
-        subst (λ (s : LineSet). AllAmong M (after s f)) next (feed-among (g ++ (i ∷ [])) f (b .1) (subst (AllAmong M) (sym next) (step-among g i among (b .0))))
+    made : x .kind ≡ 7 → TellsFor (onPlan (planIn e))
+    made k = go (s .planned) (rw k at (rows .row5-fails))
+      where
+        go : (t : Bool) → (t && true) ≡ false → Tells M (cond t s (setOf (planIn e))) (onPlan (planIn e))
+        go true n = absurd (false≢true (sym n))
+        go false n = plan-tells M (planIn e) (plan-kept s e x z k)
 
-  pub always-among : AlwaysAmong
-  unfolding after
-  always-among M f b = feed-among M [] f b (fillers (aroundOf newSet M) 32)
+    pub accepted-tells : TellsFor (accepted s e x)
+    unfolding accepted
+    accepted-tells =
+        pick-each TellsFor (x .kind) _ (ways s e x) (record { among-after = among; sent-right = tt })
+        ((λ k. served _ (rw k) (telegram-tells k))
+        ▹ (λ k. served _ (rw k) (on-tells (x .channel) _ (used (x .desk) (rw k at (rows .row12-fails))) (press-fits s ok e x (a .on-ok) z k) (press-among (eqb (x .on) 1) _)))
+        ▹ (λ k. served _ (rw k) (on-tells (x .channel) Cut (used (x .desk) (rw k at (rows .row12-fails))) tt tt))
+        ▹ (λ k. served _ (rw k) (on-tells (x .channel) _ (not-false _ (rw k at (rows .row12-fails))) (a .base-ok, a .number-ok) (brings k)))
+        ▹ (λ k. served _ (rw k) (on-tells (x .channel) MobileOff (not-false _ (rw k at (rows .row12-fails))) tt tt))
+        ▹ (λ k. served _ (rw k) tick-tells)
+        ▹ made
+        ▹ (λ k. served _ (rw k) handover-tells)
+        ▹ tt)
 
-  pub told-right : ToldRight
-  unfolding cutUp
-  told-right M f i bs b = go (eqb (stepBy (stateOf f) i .refusal) 0) refl
+-- ---- every entry, every feed
+
+abbrev stateOf : List Item → LineSet
+stateOf = after newSet
+
+module _ (M : Number → Type 0) where
+  abbrev effectOf : LineSet → Item → Effect
+  effectOf s i = accepted s (i .entry) (readEntry (i .entry))
+
+  item-tells : (f : List Item) (i : Item) → AllAmong M (stateOf f) → Brings M i → stepBy (stateOf f) i .refusal ≡ 0
+      → Tells M (servedBy (stateOf f) (stepBy (stateOf f) i)) (effectOf (stateOf f) i)
+  item-tells f i among b z =
+      let s = stateOf f in
+      let k = accepted-after s i z in
+      rw (k .1) (accepted-tells M s (always-ok f) (always-shaped f) among (i .entry) (readEntry (i .entry)) (asked-ok (i .entry)) b (k .0))
+
+  step-among : (f : List Item) (i : Item) → AllAmong M (stateOf f) → Brings M i → AllAmong M (stepBy (stateOf f) i .after)
+  step-among f i among b = go (eqb (stepBy (stateOf f) i .refusal) 0) refl
     where
-      go : (t : Bool) → eqb (stepBy (stateOf f) i .refusal) 0 ≡ t
-          → Each (Right (servedBy (stateOf f) (stepBy (stateOf f) i)) M) (lettersIn (writtenIn i (stepBy (stateOf f) i)))
-      go true h =
-          let z = eqb-true _ 0 h in
-          rw (readable f i z) (letters-right _ M _ _ (item-tells M f i (always-among M f bs) b z .sent-right))
-      go false h = rw (refused (stateOf f) (i .entry) (length (i .buffer)) (eqb-false _ 0 h) .0) tt
+      go : (t : Bool) → eqb (stepBy (stateOf f) i .refusal) 0 ≡ t → AllAmong M (stepBy (stateOf f) i .after)
+      go true h = let z = eqb-true _ 0 h in rw (accepted-after (stateOf f) i z .1) (item-tells f i among b z .among-after)
+      go false h = rw (refused (stateOf f) (i .entry) (length (i .buffer)) (eqb-false _ 0 h) .1) among
+
+  feed-among : (g f : List Item) → Each (Brings M) f → AllAmong M (stateOf g) → AllAmong M (after (stateOf g) f)
+  unfolding after
+  feed-among g [] b among = among
+  feed-among g (i ∷ f) b among =
+      let next = after-append newSet g i in
+      subst (λ (s : LineSet). AllAmong M (after s f)) next (feed-among (g ++ (i ∷ [])) f (b .1) (subst (AllAmong M) (sym next) (step-among g i among (b .0))))
+
+pub always-among : AlwaysAmong
+unfolding after
+always-among M f b = feed-among M [] f b (fillers (aroundOf newSet M) 32)
+
+pub told-right : ToldRight
+unfolding cutUp
+told-right M f i bs b = go (eqb (stepBy (stateOf f) i .refusal) 0) refl
+  where
+    go : (t : Bool) → eqb (stepBy (stateOf f) i .refusal) 0 ≡ t
+        → Each (Right (servedBy (stateOf f) (stepBy (stateOf f) i)) M) (lettersIn (writtenIn i (stepBy (stateOf f) i)))
+    go true h =
+        let z = eqb-true _ 0 h in
+        rw (readable f i z) (letters-right _ M _ _ (item-tells M f i (always-among M f bs) b z .sent-right))
+    go false h = rw (refused (stateOf f) (i .entry) (length (i .buffer)) (eqb-false _ 0 h) .0) tt

@@ -16,7 +16,8 @@ use Rattle.set_state.specs.State.{noChannel}
 use Rattle.set_rules.specs.Plan.{channelsOk, channelsIn, filled}
 use Rattle.plans.specs.Planned.{channelsRead}
 use Rattle.plans.proofs.Filled.{filled-sets}
-use Rattle.plans.proofs.Turns.{length-channels, channels-ok-at, channels-at, channels-end, code-low}
+use Rattle.set_rules.proofs.Kept.{length-channels}
+use Rattle.plans.proofs.Turns.{channels-ok-at, channels-at, channels-end, code-low}
 use borrow.Author.Needs.{needs}
 use Rattle.plans.proofs.channels.read_channels.Statement.{statement}
 use Rattle.plans.proofs.channels.read_channels.Tie as tie

@@ -15,7 +15,8 @@ use Rattle.set_rules.specs.Plan.{desksOk, desksIn, filled}
 use Rattle.plans.specs.Planned.{deskIn, desksRead}
 use Rattle.plans.specs.declared.desks.DeskRead.the-variants.{Is, Bad}
 use Rattle.plans.proofs.Filled.{filled-sets}
-use Rattle.plans.proofs.Turns.{length-desks, desks-ok-at, desks-at, desks-end}
+use Rattle.set_rules.proofs.Kept.{length-desks}
+use Rattle.plans.proofs.Turns.{desks-ok-at, desks-at, desks-end}
 use Rattle.plans.proofs.Answers.{desk-found, desk-bad}
 use borrow.Author.Needs.{needs}
 use Rattle.plans.proofs.desks.read_desks.Statement.{statement}

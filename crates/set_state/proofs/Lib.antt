@@ -1,0 +1,2 @@
+mod Listeners
+pub mod Kept
