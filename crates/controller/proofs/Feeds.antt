@@ -2,7 +2,7 @@
 -- begins. So what is promised of sets over whole feeds holds of the memory.
 -- Assumes nothing.
 use Prim.Native.Nat.{ℕ}
-use mathlib.Core.List.{List, [], _∷_, map}
+use mathlib.Core.List.{List, map}
 use mathlib.Core.Path.{_≡_, refl, sym, ap, _∙_}
 use lib.ListN.{length}
 use Rattle.set_state.specs.State.{newSet}

@@ -43,3 +43,8 @@ module _ {A : Type 0} (P : A → Type 0) where
 pub each-map : {A : Type 0} (P Q : A → Type 0) → ((x : A) → P x → Q x) → (xs : List A) → Each P xs → Each Q xs
 each-map P Q f [] o = tt
 each-map P Q f (x ∷ xs) o = (f x (o .0), each-map P Q f xs (o .1))
+
+-- what has two properties
+pub each-both : {A : Type 0} (P Q : A → Type 0) (xs : List A) → Each P xs → Each Q xs → Each (λ x. P x × Q x) xs
+each-both P Q [] o p = tt
+each-both P Q (x ∷ xs) o p = ((o .0, p .0), each-both P Q xs (o .1) (p .1))

@@ -63,18 +63,16 @@ module _ (w : Around) (e : ℕ) (c : Channel) (listen : AllListen w c e) (timed 
   arrival-in c′ q (Present k m b n) t = told-in c′ q m n t
 
   -- a step, by what it leaves and what it sends
-  left : (c′ : Channel) (ss : List Send) → c′ .code ≡ c .code → c′ .entitled ≡ c .entitled
+  left : (c′ : Channel) (ss : List Send) → c′ .entitled ≡ c .entitled
       → HolderListens w c (c′ .holder) → CallTold w c (c′ .call) → ArrivalTold w c (c′ .arrival) → SendsTold ss
       → StepAmong w c (step c′ ss)
-  left c′ ss p q h k a s = record {
-    same-code = p;
-    same-entitled = q;
+  left c′ ss q h k a s = record {
     next-among = record { holder-listens = holder-in c′ q (c′ .holder) h; call-told = call-in c′ q (c′ .call) k; arrival-told = arrival-in c′ q (c′ .arrival) a };
     sends-told = s;
   }
 
   plain-among : (ss : List Send) → SendsTold ss → StepAmong w c (step c ss)
-  plain-among ss s = record { same-code = refl; same-entitled = refl; next-among = ok; sends-told = s }
+  plain-among ss s = record { next-among = ok; sends-told = s }
 
   -- ---- who is told
 
@@ -114,7 +112,7 @@ module _ (w : Around) (e : ℕ) (c : Channel) (listen : AllListen w c e) (timed 
   -- ---- the rules
 
   captureAt-among : (h : Party) (d : ℕ) → Listens w c d → StepAmong w c (captureAt h e d c)
-  captureAt-among Nobody d l = left _ _ refl refl l (ok .call-told) (ok .arrival-told) (alone d l, (listen, tt))
+  captureAt-among Nobody d l = left _ _ refl l (ok .call-told) (ok .arrival-told) (alone d l, (listen, tt))
   captureAt-among (By h) d l = plain-among _ (alone d l, tt)
 
   capture-among : (d : ℕ) → Listens w c d → StepAmong w c (capture e d c)
@@ -124,7 +122,7 @@ module _ (w : Around) (e : ℕ) (c : Channel) (listen : AllListen w c e) (timed 
   cut-among : StepAmong w c (cut e c)
   unfolding cut
   cut-among =
-      left _ _ refl refl tt tt (ok .arrival-told)
+      left _ _ refl tt tt (ok .arrival-told)
       (each-append (SendTold w c) (pressOffSends (c .presser) (c .call)) (endOf 1 (c .call) ++ freedSends e c) (press-off-told (c .presser) refl)
       (each-append (SendTold w c) (endOf 1 (c .call)) (freedSends e c) (call-sends-told 0 1 (c .call) (ok .call-told)) freed-told))
 
@@ -133,7 +131,7 @@ module _ (w : Around) (e : ℕ) (c : Channel) (listen : AllListen w c e) (timed 
   release-among d l =
       let k = cut-among in
       either (StepAmong w c) (heldBy d (c .holder)) _ _
-      (record { same-code = k .same-code; same-entitled = k .same-entitled; next-among = k .next-among; sends-told = (alone d l, k .sends-told) })
+      (record { next-among = k .next-among; sends-told = (alone d l, k .sends-told) })
       (plain-among _ (alone d l, tt))
 
   pressOn-among : (d : ℕ) (n : Number) → c .holder ≡ By d → n ≡ w .own d → StepAmong w c (pressOn d n c)
@@ -141,12 +139,12 @@ module _ (w : Around) (e : ℕ) (c : Channel) (listen : AllListen w c e) (timed 
   pressOn-among d n q g =
       let l = holder-alone d q in
       let own : CallTold w c (pressCall d n) = record { listen = l; learn = λ d′ i. inr (inl (g ∙ ap (w .own) (sym (only-is d′ d i)))) } in
-      left _ _ refl refl (ok .holder-listens) (opened-told (c .call) (pressCall d n) (ok .call-told) own) (ok .arrival-told)
+      left _ _ refl (ok .holder-listens) (opened-told (c .call) (pressCall d n) (ok .call-told) own) (ok .arrival-told)
       (l, each-append (SendTold w c) (openingSends (c .call) (pressCall d n)) _ (opening-told (c .call) (pressCall d n) own) (l, tt))
 
   pressOff-among : StepAmong w c (pressOff c)
   unfolding pressOff
-  pressOff-among = left _ _ refl refl (ok .holder-listens) (ok .call-told) (ok .arrival-told) (press-off-told (c .presser) refl)
+  pressOff-among = left _ _ refl (ok .holder-listens) (ok .call-told) (ok .arrival-told) (press-off-told (c .presser) refl)
 
   mobile-listen : (h : Party) → c .holder ≡ h → AllListen w c (mobileRecipients h e)
   mobile-listen Nobody q = listen
@@ -157,26 +155,26 @@ module _ (w : Around) (e : ℕ) (c : Channel) (listen : AllListen w c e) (timed 
   mobileOn-among b n g =
       let m = mobileRecipients (c .holder) e in
       let t : Told w c m n = record { listen = mobile-listen (c .holder) refl; learn = λ d i. inr (inr g) } in
-      left _ _ refl refl (ok .holder-listens) (opened-told (c .call) (mobileCall m b n) (ok .call-told) t) t
+      left _ _ refl (ok .holder-listens) (opened-told (c .call) (mobileCall m b n) (ok .call-told) t) t
       (t .listen, (t, each-append (SendTold w c) (openingSends (c .call) (mobileCall m b n)) _ (opening-told (c .call) (mobileCall m b n) t) (t, tt)))
 
   mobileOff-among : StepAmong w c (mobileOff c)
   unfolding mobileOff
-  mobileOff-among = left _ _ refl refl (ok .holder-listens) (ok .call-told) tt (off-told (c .arrival) (ok .arrival-told))
+  mobileOff-among = left _ _ refl (ok .holder-listens) (ok .call-told) tt (off-told (c .arrival) (ok .arrival-told))
 
   tickQuiet-among : StepAmong w c (tickQuiet c)
   unfolding tickQuiet
   tickQuiet-among =
       either (StepAmong w c) (leb (c .quiet) 1) _ _
-      (left _ _ refl refl (ok .holder-listens) tt (ok .arrival-told) (call-sends-told 0 3 (c .call) (ok .call-told)))
-      (left _ _ refl refl (ok .holder-listens) (ok .call-told) (ok .arrival-told) tt)
+      (left _ _ refl (ok .holder-listens) tt (ok .arrival-told) (call-sends-told 0 3 (c .call) (ok .call-told)))
+      (left _ _ refl (ok .holder-listens) (ok .call-told) (ok .arrival-told) tt)
 
   tickRelease-among : StepAmong w c (tickRelease e c)
   unfolding tickRelease
   tickRelease-among =
       either (StepAmong w c) (leb (c .release) 1) _ _
-      (left _ _ refl refl tt (ok .call-told) (ok .arrival-told) freed-told)
-      (left _ _ refl refl (ok .holder-listens) (ok .call-told) (ok .arrival-told) tt)
+      (left _ _ refl tt (ok .call-told) (ok .arrival-told) freed-told)
+      (left _ _ refl (ok .holder-listens) (ok .call-told) (ok .arrival-told) tt)
 
   tick-among : StepAmong w c (tick e c)
   unfolding tick tickIdle
@@ -189,13 +187,13 @@ module _ (w : Around) (e : ℕ) (c : Channel) (listen : AllListen w c e) (timed 
   endTalk-among : StepAmong w c (endTalk c)
   unfolding endTalk
   endTalk-among =
-      left _ _ refl refl tt tt tt
+      left _ _ refl tt tt tt
       (each-append (SendTold w c) (pressOffSends (c .presser) (c .call)) _ (press-off-told (c .presser) refl) (off-told (c .arrival) (ok .arrival-told)))
 
   endCall-among : StepAmong w c (endCall e c)
   unfolding endCall
   endCall-among =
-      left _ _ refl refl tt tt tt
+      left _ _ refl tt tt tt
       (each-append (SendTold w c) (endOf 2 (c .call)) _ (call-sends-told 0 2 (c .call) (ok .call-told)) (either SendsTold (isHeld (c .holder)) _ _ freed-told tt))
 
   pub happens-among : (v : Event) → Fits v c → FitsAmong w v c → StepAmong w c (happens v e c)

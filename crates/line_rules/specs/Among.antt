@@ -2,15 +2,14 @@
 -- a new set brings about.
 use Prim.Native.Nat.{ℕ}
 use mathlib.Core.List.{List, [], _∷_}
-use mathlib.Core.Bool.{true, false}
+use mathlib.Core.Bool.{true}
 use mathlib.Core.Logic.{_⊎_}
 use mathlib.Core.Path.{_≡_}
 use Rattle.laws.specs.Each.{Each}
 use Rattle.telegram.specs.Telegram.{num}
 use Rattle.telegram.specs.declared.message.Number.{Number}
-use Rattle.telegram.specs.declared.message.Message.{Message}
 use Rattle.telegram.specs.declared.message.Message.the-variants.{TimeNotice, OperationAnswer, TimeRequest, BaseArrival as Arrived, OperationRequest, Call as CallMade, CallerNotice as Talks, CaptureRequest, CaptureReply as Reply, CaptureState as State}
-use Rattle.channel.specs.State.{isIn, isPresent}
+use Rattle.channel.specs.State.{isIn}
 use Rattle.channel.specs.declared.state.Party.{Party}
 use Rattle.channel.specs.declared.state.Party.the-variants.{Nobody, By}
 use Rattle.channel.specs.declared.state.Call.{Call}
@@ -112,7 +111,5 @@ module _ (w : Around) where
 
   -- what a rule makes of channel c
   pub record StepAmong (c : Channel) (st : Step) : Type 0 where
-    pub same-code : st .next .code ≡ c .code
-    pub same-entitled : st .next .entitled ≡ c .entitled
     pub next-among : Among (st .next)
     pub sends-told : Each (SendTold c) (st .sends)

@@ -17,15 +17,11 @@ use Rattle.channel.specs.declared.state.Send.{Send}
 use Rattle.records.specs.Promises.{Split}
 use Rattle.set_rules.specs.Records.{Delivery, delivered, toEach, recordsOf, spaceOf}
 use Rattle.set_rules.specs.SetRules.{sentIn, sendsOf, endSends}
+use Rattle.set_rules.proofs.Kept.{space-append}
 use Rattle.set_state.specs.State.{noChannel, channelsOf}
 use Rattle.set_state.specs.declared.state.Desk.{Desk}
 use Rattle.set_state.specs.declared.state.LineSet.{LineSet}
 use Rattle.line_set.proofs.Seeking.{counted}
-
-space-append : (vs ws : List Delivery) → spaceOf (vs ++ ws) ≡ spaceOf vs + spaceOf ws
-unfolding spaceOf
-space-append [] ws = sym (zero-add (spaceOf ws))
-space-append (v ∷ vs) ws = let e = space-append vs ws in omega arith
 
 records-append : (ds : List Desk) (vs ws : List Delivery) → recordsOf ds (vs ++ ws) ≡ recordsOf ds vs ++ recordsOf ds ws
 unfolding recordsOf

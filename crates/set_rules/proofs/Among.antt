@@ -1,18 +1,16 @@
 -- What `Told.antt` goes by: the desks and channels of a set by place and code, being among more running desks, and that what a
 -- channel sends to listeners, with numbers that are for them, is right.
 -- Assumes nothing.
-use Prim.Native.Nat.{ℕ, zero, suc, _+_, _-_, _/_, _%_, _^_, _≤_, _<_}
+use Prim.Native.Nat.{ℕ, zero, suc, _+_, _≤_, _<_}
 use mathlib.Core.List.{List, [], _∷_}
 use mathlib.Core.Bool.{Bool, true, false, cond, false≢true}
 use mathlib.Core.Logic.{inl, inr}
 use mathlib.Core.Path.{_≡_, refl, sym, ap, _∙_}
 use native.Mathlib.Omega.{arith}
-use native.Mathlib.Nat.{pow-suc, pow-le-pow-right}
 use lib.Dec.{eqb, ltb}
-use lib.Pow.{pow-pos}
 use lib.ListN.{length, length-take, take, getD, List·getD-eq-default}
 use lib.Seq.{getD-take}
-use borrow.Author.Tests.{ltb-true, ltb-false, lt-ltb, eqb-true, eqb-false, eq-eqb, ne-eqb}
+use borrow.Author.Tests.{ltb-true, ltb-false, eqb-true, eqb-false, eq-eqb, ne-eqb}
 use Rattle.laws.specs.Each.{Each}
 use Rattle.laws.proofs.Each.{each-map}
 use Rattle.laws.proofs.Tests.{by-test, either}
@@ -21,7 +19,7 @@ use Rattle.telegram.specs.declared.message.Message.{Message}
 use Rattle.telegram.specs.declared.message.Message.the-variants.{TimeNotice, OperationAnswer, TimeRequest, BaseArrival, OperationRequest, Call as CallMade, CallerNotice, CaptureRequest, CaptureReply, CaptureState}
 use Rattle.telegram.specs.declared.message.Reading.{Reading}
 use Rattle.telegram.specs.declared.message.Reading.the-variants.{Telegram, Refused}
-use Rattle.channel.specs.State.{isIn, only, firstDesks}
+use Rattle.channel.specs.State.{isIn, only}
 use Rattle.channel.specs.declared.state.Party.{Party}
 use Rattle.channel.specs.declared.state.Party.the-variants.{Nobody, By}
 use Rattle.channel.specs.declared.state.Call.{Call}
@@ -51,18 +49,6 @@ use Rattle.set_rules.specs.Invariant.{Rising, Running, aroundOf, AllAmon
 use Rattle.set_rules.specs.Promises.{Hears, Right}
 
 -- ---- masks
-
-in-below : (d m : ℕ) → isIn d m ≡ true → 2 ^ d ≤ m
-unfolding isIn
-in-below zero m h = omega (arith, eqb-true (m % 2) 1 h)
-in-below (suc d) m h = rw (pow-suc 2 d) (omega (arith, in-below d (m / 2) h))
-
--- who is in a set of the first n desks is one of them
-pub first-in : (n m d : ℕ) → n ≤ 4 → m ≤ firstDesks n → isIn d m ≡ true → d < n
-first-in n m d l h i = by-test (ltb d n) (ltb-true d n) λ p.
-    let w : m ≤ 2 ^ n - 1 = rw (lt-ltb n 8 (omega arith)) at h in
-    let q : 2 ^ n ≤ 2 ^ d = pow-le-pow-right (omega arith) {i = n} {j = d} (ltb-false d n p) in
-    absurd (omega (arith, in-below d m i, pow-pos n))
 
 pub only-is : (j d : ℕ) → isIn j (only d) ≡ true → d ≡ j
 only-is j d i = by-test (eqb d j) (eqb-true d j) λ p. absurd (false≢true (sym (only-other j d (eqb-false d j p)) ∙ i))

@@ -5,7 +5,7 @@ use mathlib.Core.List.{List, [], _∷_, _++_}
 use mathlib.Core.Bool.{Bool, true, false, cond, false≢true}
 use mathlib.Core.Path.{_≡_, refl, sym, ap, subst, _∙_}
 use native.Mathlib.Omega.{arith}
-use native.Mathlib.Nat.{add-mul, one-mul, zero-mul}
+use native.Mathlib.Nat.{add-mul, one-mul, zero-mul, zero-add}
 use lib.Count.{onesIn}
 use lib.Dec.{eqb, leb}
 use lib.ListN.{length, length-append, length-drop, drop, getD}
@@ -16,12 +16,10 @@ use Rattle.laws.proofs.Each.{_▹_, each-append}
 use Rattle.laws.proofs.Tests.{by-test}
 use Rattle.telegram.proofs.Kept.{length-telegram}
 use Rattle.channel.specs.State.{isIn}
-use Rattle.line_rules.specs.Notices.{Content, telegram, contact, contentFor}
-use Rattle.channel.specs.declared.state.Channel.{Channel}
+use Rattle.line_rules.specs.Notices.{telegram, contact, contentFor}
 use Rattle.channel.specs.declared.state.Event.{Event}
 use Rattle.channel.specs.declared.state.Notice.{Notice}
 use Rattle.channel.specs.declared.state.Notice.the-variants.{PressAnswer, Incoming, BaseArrival, Call, PressNotice, CallerNotice, CaptureReply, CaptureState}
-use Rattle.channel.specs.declared.state.Send.{Send}
 use Rattle.set_state.specs.State.{newSet, noDesk, ownOf}
 use Rattle.set_rules.specs.Entries.{readEntry, telegramIn}
 use Rattle.laws.specs.Table.{pick}
@@ -29,7 +27,7 @@ use Rattle.set_rules.specs.Refusals.{askedIn, refusalOf}
 use Rattle.set_rules.specs.Records.{Delivery, delivered, recordFor, recordSize, toEach, recordsOf, spaceOf}
 use Rattle.set_rules.specs.SetRules.{Effect, onChannel, sendsOf, onTick, onHandover, onRequest, ways, accepted}
 use Rattle.set_rules.specs.Feeds.{Outcome, Item, Gives, outcomeOf, stepOf, stepBy, run, after}
-use Rattle.set_rules.specs.RecordLaws.{EvenSized, AllEven, RecordIsLong, SpaceIsLength, EvenSends, EvenAll, withoutLowest, OneMoreHalf, LowestBit, GivesAlike, LeftAsWas, NoRoom}
+use Rattle.set_rules.specs.RecordLaws.{EvenSized, AllEven, RecordIsLong, SpaceIsLength, SpaceInTurn, EvenSends, EvenAll, withoutLowest, OneMoreHalf, LowestBit, GivesAlike, LeftAsWas, NoRoom}
 use Rattle.set_rules.specs.Promises.{Refused, Counted, Written, HandoverMakesNew, Renewed}
 use Rattle.set_state.specs.declared.state.Answer.{Answer}
 use Rattle.set_state.specs.declared.state.Desk.{Desk}
@@ -92,6 +90,11 @@ pub space-length : SpaceIsLength
 unfolding spaceOf recordsOf withoutLowest
 space-length ds [] e = refl
 space-length ds (v ∷ vs) e = simp (length-append, each-length 8 0 ds v (e .0), space-length ds vs (e .1)) refl
+
+pub space-append : SpaceInTurn
+unfolding spaceOf
+space-append [] ws = sym (zero-add (spaceOf ws))
+space-append (v ∷ vs) ws = let e = space-append vs ws in omega arith
 
 -- every notice takes the same space to each desk
 pub even-notice : (ds : List Desk) (ch : ℕ) (n : Notice) (d : ℕ) → recordSize (contentFor d (ownOf ds d) ch n) ≡ recordSize (contentFor 0 (ownOf ds 0) ch n)
@@ -214,13 +217,19 @@ pub accepted-after : (s : LineSet) (i : Item) → stepBy s i .refusal ≡ 0
     → (refusalOf s (i .entry) (readEntry (i .entry)) ≡ 0) × (stepBy s i .after ≡ accepted s (i .entry) (readEntry (i .entry)) .after)
 accepted-after s i z = let k = accepted-done s i z in (k .no-refusal, k .after-is)
 
--- what holds of a set before an entry holds after it, if an accepted one keeps it
+-- what holds of a set before an entry holds after it, if an accepted one keeps it; and then whatever the feed
 pub step-keeps : (P : LineSet → Type 0) (s : LineSet) (i : Item) → P s
     → (stepBy s i .refusal ≡ 0 → P (accepted s (i .entry) (readEntry (i .entry)) .after)) → P (stepBy s i .after)
 step-keeps P s i p q =
     by-test (eqb (stepBy s i .refusal) 0)
     (λ h. let z = eqb-true _ 0 h in subst P (sym (accepted-after s i z .1)) (q z))
     (λ h. subst P (sym (refused s (i .entry) (length (i .buffer)) (λ z. false≢true (sym h ∙ eq-eqb _ 0 z)) .1)) p)
+
+pub feed-keeps : (P : LineSet → Type 0)
+    → ((s : LineSet) (e : List ℕ) → refusalOf s e (readEntry e) ≡ 0 → P s → P (accepted s e (readEntry e) .after)) → (s : LineSet) (f : List Item) → P s → P (after s f)
+unfolding after
+feed-keeps P q s [] p = p
+feed-keeps P q s (i ∷ f) p = feed-keeps P q (stepBy s i .after) f (step-keeps P s i p (λ z. q s (i .entry) (accepted-after s i z .0) p))
 
 pub made-new : HandoverMakesNew
 made-new s h k z = accepted-after s h z .1 ∙ handed-over s (h .entry) (readEntry (h .entry)) k

@@ -33,7 +33,7 @@ use Rattle.set_rules.specs.Refusals.{askedBy, askedIn, refusalOf}
 use Rattle.set_rules.specs.SetRules.{onChannel, ticked, onTick, onHandover, onRequest, ways, accepted}
 use Rattle.set_rules.specs.Feeds.{Item, stepBy, after}
 use Rattle.set_rules.specs.Promises.{Ends, released, cut, timed-out, handed-over, HoldingEnds, AcceptedFinds}
-use Rattle.set_rules.proofs.Answers.{accepted-after, step-keeps}
+use Rattle.set_rules.proofs.Answers.{accepted-after, step-keeps, feed-keeps}
 use Rattle.set_rules.proofs.Rows.{no-row}
 use Rattle.set_rules.proofs.Readable.{holds, held-by, always-ok, at-ok}
 use Rattle.set_state.specs.declared.state.Desk.{Desk}
@@ -153,11 +153,8 @@ accepted-planless s e x h =
     ▹ (λ k p. refl)
     ▹ tt)
 
-feed-planless : (s : LineSet) (f : List Item) → Planless s → Planless (after s f)
-unfolding after
-feed-planless s [] h = h
-feed-planless s (i ∷ f) h =
-    feed-planless (stepBy s i .after) f (step-keeps Planless s i h (λ z. accepted-planless s (i .entry) (readEntry (i .entry)) h))
+always-planless : (f : List Item) → Planless (after newSet f)
+always-planless f = feed-keeps Planless (λ s e z h. accepted-planless s e (readEntry e) h) newSet f (λ p. refl)
 
 -- so nobody holds anything there
 none-held : (s : LineSet) (ch d : ℕ) → s .size .channels ≡ 0 → channelAt s ch .holder ≡ By d → ⊥
@@ -277,7 +274,7 @@ module _ (f : List Item) (i : Item) (ch d : ℕ) (held : channelAt (after newSet
   no-plan : refusalOf s (i .entry) x ≡ 0 → x .kind ≡ 7 → ⊥
   no-plan z k =
       let p = fails-first (s .planned) (eqb (x .kind) 7) (no-row s (i .entry) x z .row5-fails) (eq-eqb (x .kind) 7 k) in
-      none-held s ch d (feed-planless newSet f (λ q. refl) p) held
+      none-held s ch d (always-planless f p) held
 
   accepted-lasts : stepBy s i .refusal ≡ 0 → Stays (accepted s (i .entry) x .after)
   unfolding accepted

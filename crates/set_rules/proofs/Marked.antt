@@ -1,8 +1,6 @@
 -- All cases marked (p) in 01: those of the reader and of entries compute, and the ticks are proved for every set that fits.
 -- Assumes nothing.
-use Prim.Native.Nat.{ℕ}
-use mathlib.Core.List.{List}
-use mathlib.Core.Path.{_≡_, refl, sym, subst}
+use mathlib.Core.Path.{refl, sym, subst}
 use Rattle.numerals.specs.Digits.{digitsOf, allDigits, valueFrom}
 use Rattle.fields.specs.Fields.{bodyOk, valuesIn, bytesOf}
 use Rattle.telegram.specs.Telegram.{headerOk, readTelegram, telegramOf}

@@ -8,7 +8,7 @@ use native.Mathlib.Omega.{arith}
 use native.Mathlib.Nat.{pow-le-pow-right}
 use lib.Dec.{eqb, leb}
 use lib.ListN.{length, length-take, take, drop, getD, replicate}
-use borrow.Author.Tests.{leb-true, le-leb, eqb-true, eqb-false, eq-eqb}
+use borrow.Author.Tests.{leb-true, le-leb, eqb-true, eqb-false}
 use Rattle.laws.specs.Each.{Each}
 use Rattle.laws.proofs.Each.{_▹_, each-at, each-set, each-take, each-drop, each-append, each-same}
 use Rattle.laws.proofs.Tests.{both, by-test}
@@ -38,7 +38,7 @@ use Rattle.set_rules.specs.Plan.{deskOk, desksOk, desksIn, channelsOk, c
 use Rattle.set_rules.specs.Refusals.{askedBy, askedIn, refusalOf}
 use Rattle.set_rules.specs.Records.{Delivery, delivered, recordFor}
 use Rattle.set_rules.specs.SetRules.{Effect, telegramTo, sendsOf, onChannel, ticked, tickSends, endSends, onTick, onHandover, onPlan, onRequest, ways, timeTaken, answerTaken, numberIn, accepted}
-use Rattle.set_rules.specs.Feeds.{Item, stepBy, after}
+use Rattle.set_rules.specs.Feeds.{after}
 use Rattle.line_rules.specs.Invariant.{NumberOk, ChannelOk, Fits, SendOk, SendsOk, ContentOk}
 use Rattle.line_rules.proofs.Kept.{free-is-ok, stays-ok, says-in-range}
 use Rattle.set_rules.specs.Invariant.{DeskOk, SetOk}
@@ -52,7 +52,7 @@ use Rattle.set_state.specs.declared.state.LinkRequest.the-variants.{TellsTime, 
 use Rattle.set_state.specs.declared.state.Request.{Request}
 use Rattle.set_state.specs.declared.state.Request.the-variants.{OfLink, OnChannel, Foreign}
 use Rattle.laws.proofs.Table.{pick-each}
-use Rattle.set_rules.proofs.Answers.{written, accepted-after, accepted-done, step-keeps}
+use Rattle.set_rules.proofs.Answers.{written, accepted-done, feed-keeps}
 use Rattle.set_rules.proofs.Received.{toEachOne, eachOf, cut-records}
 use Rattle.set_rules.proofs.Rows.{no-row}
 
@@ -336,20 +336,11 @@ accepted-ok s ok e x a z =
     ▹ (λ k. handover-ok s ok)
     ▹ tt)
 
-step-ok : (s : LineSet) (i : Item) → SetOk s → SetOk (stepBy s i .after)
-step-ok s i ok =
-    step-keeps SetOk s i ok (λ z. accepted-ok s ok (i .entry) (readEntry (i .entry)) (asked-ok (i .entry)) (accepted-after s i z .0) .set-ok)
-
-feed-ok : (s : LineSet) (f : List Item) → SetOk s → SetOk (after s f)
-unfolding after
-feed-ok s [] ok = ok
-feed-ok s (i ∷ f) ok = feed-ok (stepBy s i .after) f (step-ok s i ok)
-
 new-ok : SetOk newSet
 new-ok = record { desks-ok = no-desks 4; channels-ok = no-channels 32 }
 
 pub always-ok : AlwaysOk
-always-ok f = feed-ok newSet f new-ok
+always-ok f = feed-keeps SetOk (λ s e z ok. accepted-ok s ok e (readEntry e) (asked-ok e) z .set-ok) newSet f new-ok
 
 -- ---- the records among the bytes written
 

@@ -50,6 +50,7 @@ use Rattle.set_rules.specs.SetRules.{Effect, onChannel, sendsOf, tickSen
 use Rattle.set_rules.specs.Feeds.{Item, outcomeOf, stepOf, after}
 use Rattle.set_rules.specs.Invariant.{Shaped, aroundOf}
 use Rattle.set_rules.specs.Promises.{roomEnough, Roomy, Brings}
+use Rattle.set_rules.proofs.Answers.{space-append}
 use Rattle.set_rules.proofs.Shape.{always-shaped}
 use Rattle.set_rules.proofs.Told.{always-among}
 
@@ -89,11 +90,6 @@ one-desk : (d : ℕ) → onesIn 8 (only d) ≤ 1
 one-desk d = ones-one 8 d (only d) (λ j n. only-other j d n)
 
 -- ---- the space that sends take
-
-space-append : (vs ws : List Delivery) → spaceOf (vs ++ ws) ≡ spaceOf vs + spaceOf ws
-unfolding spaceOf
-space-append [] ws = sym (zero-add (spaceOf ws))
-space-append (v ∷ vs) ws = let e = space-append vs ws in omega arith
 
 -- what a handover sends of one channel, at most
 abbrev perChannel : ℕ

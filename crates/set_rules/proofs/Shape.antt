@@ -10,7 +10,7 @@ use lib.Dec.{eqb, leb, ltb}
 use lib.Pow.{pow-pos}
 use lib.ListN.{length, length-take, length-drop, length-set, length-append, length-replicate, length-map, take-append-drop, take, drop, getD, set, replicate}
 use lib.Seq.{length-take-le, take-at, drop-at, take-set-lt, drop-set-lt}
-use borrow.Author.Tests.{leb-true, ltb-true, ltb-false, lt-ltb, eqb-true, eq-eqb, not-false}
+use borrow.Author.Tests.{leb-true, ltb-true, ltb-false, lt-ltb, not-false}
 use Rattle.laws.specs.Each.{Each}
 use Rattle.laws.proofs.Each.{_▹_, each-at, each-set, each-take, each-drop, each-append, each-same}
 use Rattle.laws.proofs.Tests.{both, by-test}
@@ -34,10 +34,11 @@ use Rattle.set_rules.specs.Entries.{readEntry, telegramIn, planIn}
 use Rattle.set_rules.specs.Plan.{desksIn, channelsOk, channelsIn, deskCount, desksPart, channelCount, channelsPart, planOk, filled, setOf}
 use Rattle.set_rules.specs.Refusals.{lookupIn, askedIn, channelIn, named, mayUse, refusalOf}
 use Rattle.set_rules.specs.SetRules.{Effect, movedIn, onChannel, ticked, onTick, onHandover, onRequest, ways, accepted}
-use Rattle.set_rules.specs.Feeds.{Item, stepBy, after}
+use Rattle.set_rules.specs.Feeds.{after}
 use Rattle.set_rules.specs.Invariant.{EntitledIn, Rising, Shaped}
+use Rattle.set_rules.specs.RecordLaws.{DesksAsSaid, ChannelsAsSaid}
 use Rattle.set_rules.specs.Promises.{AlwaysShaped, SamePlan, FillersNeverShow}
-use Rattle.set_rules.proofs.Answers.{refused, accepted-after}
+use Rattle.set_rules.proofs.Answers.{feed-keeps}
 use Rattle.set_rules.proofs.Rows.{no-row}
 use Rattle.set_rules.proofs.Readable.{plan-kept}
 
@@ -171,21 +172,21 @@ module _ (s : LineSet) (h : Shaped s) where
 
 -- ---- a plan that keeps its rules
 
-pub length-desks : (n : ℕ) (b : List ℕ) → length (desksIn n b) ≡ n
+pub length-desks : DesksAsSaid
 unfolding desksIn
 length-desks zero b = refl
 length-desks (suc n) b = ap suc (length-desks n (drop 10 b))
 
-pub length-channels : (n : ℕ) (b : List ℕ) → length (channelsIn n b) ≡ n
+pub length-channels : ChannelsAsSaid
 unfolding channelsIn
 length-channels zero b = refl
 length-channels (suc n) b = ap suc (length-channels n (drop 2 b))
 
--- a mask of desks that are there
-mask-below : (n m : ℕ) → n ≤ 4 → m ≤ firstDesks n → m < 2 ^ n
-mask-below n m l h =
+-- who is in a mask of the first n desks is one of them
+pub first-in : (n m : ℕ) → n ≤ 4 → m ≤ firstDesks n → (d : ℕ) → isIn d m ≡ true → d < n
+first-in n m l h =
     let k : m ≤ 2 ^ n - 1 = rw (lt-ltb n 8 (omega arith)) at h in
-    omega (arith, pow-pos n)
+    mask-in n m (omega (arith, pow-pos n))
 
 record ChannelsIn (low desks : ℕ) (cs : List Channel) : Type 0 where
   entitled : Each (EntitledIn desks) cs
@@ -201,11 +202,11 @@ channels-in (suc n) low desks b l h =
     let mask = both (leb 1 (byte b 1)) _ (f .1) in
     let rest = channels-in n _ desks (drop 2 b) l (a .1) in
     record {
-      entitled = (mask-in desks (byte b 1) (mask-below desks (byte b 1) l (leb-true _ _ (mask .1))), rest .entitled);
+      entitled = (first-in desks (byte b 1) l (leb-true _ _ (mask .1)), rest .entitled);
       rise = (leb-true low _ (code .0), rest .rise);
     }
 
-plan-shaped : (p : List ℕ) → planOk p ≡ true → Shaped (setOf p)
+pub plan-shaped : (p : List ℕ) → planOk p ≡ true → Shaped (setOf p)
 unfolding planOk setOf
 plan-shaped p h =
     let ds = desksIn (deskCount p) (desksPart p) in
@@ -272,22 +273,8 @@ module _ (s : LineSet) (e : List ℕ) (x : Entry) (z : refusalOf s e x ≡ 0) wh
       ▹ (λ k. new-shaped)
       ▹ tt)
 
-step-shaped : (s : LineSet) (i : Item) → Shaped s → Shaped (stepBy s i .after)
-step-shaped s i h = go (eqb (stepBy s i .refusal) 0) refl
-  where
-    go : (t : Bool) → eqb (stepBy s i .refusal) 0 ≡ t → Shaped (stepBy s i .after)
-    go true k =
-        let f = accepted-after s i (eqb-true _ 0 k) in
-        rw (f .1) (accepted-shaped s (i .entry) (readEntry (i .entry)) (f .0) h)
-    go false k = rw (refused s (i .entry) (length (i .buffer)) (λ p. false≢true (sym k ∙ eq-eqb _ 0 p)) .1) h
-
-feed-shaped : (s : LineSet) (f : List Item) → Shaped s → Shaped (after s f)
-unfolding after
-feed-shaped s [] h = h
-feed-shaped s (i ∷ f) h = feed-shaped (stepBy s i .after) f (step-shaped s i h)
-
 pub always-shaped : AlwaysShaped
-always-shaped f = feed-shaped newSet f new-shaped
+always-shaped f = feed-keeps Shaped (λ s e z h. accepted-shaped s e (readEntry e) z h) newSet f new-shaped
 
 -- ---- fillers never show
 

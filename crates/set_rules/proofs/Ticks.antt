@@ -4,8 +4,7 @@ use Prim.Native.Nat.{ℕ, zero, suc, _+_}
 use mathlib.Core.List.{List, [], _∷_, _++_, map, append-nil}
 use mathlib.Core.Bool.{Bool, true, false, _&&_, not, cond, false≢true}
 use mathlib.Core.Path.{_≡_, refl, sym, ap, _∙_}
-use native.Mathlib.Omega.{arith}
-use lib.Dec.{eqb, leb, ltb}
+use lib.Dec.{eqb, ltb}
 use lib.ListN.{length, replicate, getD}
 use Rattle.laws.proofs.Tests.{by-test}
 use Rattle.channel.specs.State.{isIn, isHeld}
@@ -21,10 +20,10 @@ use Rattle.set_state.specs.State.{newSet, noChannel, placeOf, hasChannel, chann
 use Rattle.set_rules.specs.Entries.{readEntry}
 use Rattle.laws.specs.Each.{Each}
 use Rattle.laws.specs.Table.{pick}
-use Rattle.set_rules.specs.Refusals.{firstOf, refusalOf}
-use Rattle.set_rules.specs.Records.{delivered, recordsOf, spaceOf}
+use Rattle.set_rules.specs.Refusals.{refusalOf}
+use Rattle.set_rules.specs.Records.{delivered, recordsOf}
 use Rattle.set_rules.specs.SetRules.{sendsOf, onChannel, onTick, accepted}
-use Rattle.set_rules.specs.Feeds.{Outcome, Item, outcomeOf, stepOf, stepBy, run, after}
+use Rattle.set_rules.specs.Feeds.{Item, stepBy, run, after}
 use Rattle.set_rules.specs.Spelling.{entryOf}
 use Rattle.set_rules.specs.Marked.{Accepted, Ticked, tickedBy, tickOf, ticksWith, endBytes, EndsAt}
 use Rattle.set_rules.proofs.Answers.{accepted-after, accepted-done}

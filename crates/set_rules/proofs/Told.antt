@@ -1,19 +1,18 @@
 -- In every state that a feed brings about all channels are among the running entitled desks, and every record written goes to a
 -- desk that may have it, with numbers that are for it.
 -- Assumes nothing.
-use Prim.Native.Nat.{ℕ, zero, suc, _+_, _-_, _*_, _≤_, _<_}
+use Prim.Native.Nat.{ℕ, zero, suc, _-_, _≤_, _<_}
 use mathlib.Core.List.{List, [], _∷_, _++_, map}
 use mathlib.Core.Bool.{Bool, true, false, _&&_, not, cond, false≢true}
 use mathlib.Core.Path.{_≡_, refl, sym, ap, subst, _∙_}
 use native.Mathlib.Omega.{arith}
-use lib.Dec.{eqb, leb}
+use lib.Dec.{eqb}
 use lib.ListN.{length, take, drop, getD, replicate}
-use borrow.Author.Tests.{ltb-true, leb-true, eqb-true, eqb-false, eq-eqb, ne-eqb, not-false}
+use borrow.Author.Tests.{ltb-true, eqb-true, eqb-false, eq-eqb, ne-eqb, not-false}
 use Rattle.laws.specs.Each.{Each}
-use Rattle.laws.proofs.Each.{_▹_, each-at, each-set, each-take, each-drop, each-append, each-same, each-map}
+use Rattle.laws.proofs.Each.{_▹_, each-both, each-at, each-set, each-take, each-drop, each-append, each-same, each-map}
 use Rattle.laws.proofs.Tests.{both}
 use Rattle.laws.proofs.Table.{pick-each}
-use Rattle.fields.specs.Fields.{between}
 use Rattle.telegram.specs.Telegram.{readTelegram}
 use Rattle.telegram.specs.declared.message.Number.{Number}
 use Rattle.telegram.specs.declared.message.Message.the-variants.{TimeRequest, OperationRequest}
@@ -37,7 +36,7 @@ use Rattle.set_state.specs.declared.state.LinkRequest.the-variants.{TellsTime, 
 use Rattle.set_state.specs.declared.state.Request.{Request}
 use Rattle.set_state.specs.declared.state.Request.the-variants.{OfLink, OnChannel, Foreign}
 use Rattle.set_rules.specs.Entries.{readEntry, telegramIn, planIn}
-use Rattle.set_rules.specs.Plan.{deskCount, desksPart, channelCount, channelsPart, desksIn, channelsIn, desksOk, channelsOk, distinct, planOk, setOf}
+use Rattle.set_rules.specs.Plan.{deskCount, channelCount, channelsPart, channelsIn, planOk, setOf}
 use Rattle.set_rules.specs.Refusals.{askedIn, phaseOf, named, mayUse, lookupIn, channelIn, refusalOf}
 use Rattle.set_rules.specs.Records.{Delivery, delivered}
 use Rattle.set_rules.specs.SetRules.{Effect, movedIn, onChannel, sendsOf, ticked, tickSends, endSends, onTick, onHandover, onPlan, onRequest, numberIn, ways, accepted}
@@ -47,15 +46,11 @@ use Rattle.set_rules.specs.Invariant.{SetOk, Shaped, aroundOf, AllAmong}
 use Rattle.set_rules.specs.Promises.{Right, Brings, AlwaysAmong, servedBy, ToldRight}
 use Rattle.set_rules.proofs.Rows.{NoRow, no-row}
 use Rattle.set_rules.proofs.Readable.{AskedOk, at-ok, planned-ok, plan-kept, pressOf, press-fits, asked-ok, always-ok, readable}
-use Rattle.set_rules.proofs.Shape.{always-shaped}
-use Rattle.set_rules.proofs.Answers.{refused, accepted-after, after-append}
-use Rattle.set_rules.proofs.Among.{first-in, only-is, place-code, Found, rising-found, running-in, own-linked, runsAt, runs-linked, among-more, Heard, Tells, sends-heard, OnEvent, asked-in}
+use Rattle.set_rules.proofs.Shape.{first-in, plan-shaped, found, always-shaped}
+use Rattle.set_rules.proofs.Answers.{refused, accepted-after, step-keeps, after-append}
+use Rattle.set_rules.proofs.Among.{only-is, place-code, Found, rising-found, running-in, own-linked, runsAt, runs-linked, among-more, Heard, Tells, sends-heard, OnEvent, asked-in}
 
 -- ---- effects
-
-each-both : {A : Type 0} (P Q : A → Type 0) (xs : List A) → Each P xs → Each Q xs → Each (λ x. P x × Q x) xs
-each-both P Q [] o p = tt
-each-both P Q (x ∷ xs) o p = ((o .0, p .0), each-both P Q xs (o .1) (p .1))
 
 -- free channels are among any desks: those of a plan, and what fills the array
 free-channels : (w : Around) (n : ℕ) (b : List ℕ) → Each (Among w) (channelsIn n b)
@@ -68,15 +63,12 @@ fillers w n = each-same (Among w) n noChannel (free-is-among w 0 0)
 
 -- "Accepting a plan sends 550461 to each desk."
 plan-tells : (M : Number → Type 0) (p : List ℕ) → planOk p ≡ true → Tells M (setOf p) (onPlan p)
-unfolding planOk setOf
+unfolding setOf
 plan-tells M p h =
     let n = deskCount p in
     let cs = channelsIn (channelCount p) (channelsPart p) in
-    let low : between 1 4 n && between 1 32 (channelCount p) ≡ true =
-    both _ (eqb (length p) (2 + 10 * n + 2 * channelCount p)) (both _ (desksOk n (desksPart p)) (both _ (distinct (desksIn n (desksPart p))) (both _ (channelsOk (channelCount p) 0 n (channelsPart p)) h .0) .0) .0) .0 in
-    let most = leb-true n 4 (both (leb 1 n) (leb n 4) (both (between 1 4 n) (between 1 32 (channelCount p)) low .0) .1) in
     let to-each : Heard (setOf p) M (setOf p .desks) (record { recipients = firstDesks n; content = λ d. telegram TimeRequest }) =
-    λ d i. (first-in n (firstDesks n) d most (omega arith) i, (refl, (tt, tt))) in
+    λ d i. (first-in n (firstDesks n) (plan-shaped p h .desks-most) (omega arith) d i, (refl, (tt, tt))) in
     record { among-after = each-append (Among (aroundOf (setOf p) M)) cs _ (free-channels _ (channelCount p) (channelsPart p)) (fillers _ (32 - length cs)); sent-right = (to-each, tt) }
 
 -- the letters of deliveries of which each recipient hears what is right
@@ -212,9 +204,6 @@ module _ (M : Number → Type 0) (s : LineSet) (ok : SetOk s) (shaped : Shaped s
     press-among true c = refl
     press-among false c = tt
 
-    used : (d : ℕ) → not (mayUse (lookupIn s (x .channel)) d) ≡ false → hasChannel s (x .channel) ≡ true
-    used d h = both (hasChannel s (x .channel)) _ (not-false _ h) .0
-
     -- by the set served: an entry other than a plan finds one, and a plan finds none (rows 4 and 5)
     abbrev TellsFor : Effect → Type 0
     TellsFor f = Tells M (cond (s .planned) s (f .after)) f
@@ -239,10 +228,10 @@ module _ (M : Number → Type 0) (s : LineSet) (ok : SetOk s) (shaped : Shaped s
     accepted-tells =
         pick-each TellsFor (x .kind) _ (ways s e x) (record { among-after = among; sent-right = tt })
         ((λ k. served _ (rw k) (telegram-tells k))
-        ▹ (λ k. served _ (rw k) (on-tells (x .channel) _ (used (x .desk) (rw k at (rows .row12-fails))) (press-fits s ok e x (a .on-ok) z k) (press-among (eqb (x .on) 1) _)))
-        ▹ (λ k. served _ (rw k) (on-tells (x .channel) Cut (used (x .desk) (rw k at (rows .row12-fails))) tt tt))
-        ▹ (λ k. served _ (rw k) (on-tells (x .channel) _ (not-false _ (rw k at (rows .row12-fails))) (a .base-ok, a .number-ok) (brings k)))
-        ▹ (λ k. served _ (rw k) (on-tells (x .channel) MobileOff (not-false _ (rw k at (rows .row12-fails))) tt tt))
+        ▹ (λ k. served _ (rw k) (on-tells (x .channel) _ (found s e x z 2 refl refl k) (press-fits s ok e x (a .on-ok) z k) (press-among (eqb (x .on) 1) _)))
+        ▹ (λ k. served _ (rw k) (on-tells (x .channel) Cut (found s e x z 3 refl refl k) tt tt))
+        ▹ (λ k. served _ (rw k) (on-tells (x .channel) _ (found s e x z 4 refl refl k) (a .base-ok, a .number-ok) (brings k)))
+        ▹ (λ k. served _ (rw k) (on-tells (x .channel) MobileOff (found s e x z 5 refl refl k) tt tt))
         ▹ (λ k. served _ (rw k) tick-tells)
         ▹ made
         ▹ (λ k. served _ (rw k) handover-tells)
@@ -265,11 +254,7 @@ module _ (M : Number → Type 0) where
       rw (k .1) (accepted-tells M s (always-ok f) (always-shaped f) among (i .entry) (readEntry (i .entry)) (asked-ok (i .entry)) b (k .0))
 
   step-among : (f : List Item) (i : Item) → AllAmong M (stateOf f) → Brings M i → AllAmong M (stepBy (stateOf f) i .after)
-  step-among f i among b = go (eqb (stepBy (stateOf f) i .refusal) 0) refl
-    where
-      go : (t : Bool) → eqb (stepBy (stateOf f) i .refusal) 0 ≡ t → AllAmong M (stepBy (stateOf f) i .after)
-      go true h = let z = eqb-true _ 0 h in rw (accepted-after (stateOf f) i z .1) (item-tells f i among b z .among-after)
-      go false h = rw (refused (stateOf f) (i .entry) (length (i .buffer)) (eqb-false _ 0 h) .1) among
+  step-among f i among b = step-keeps (AllAmong M) (stateOf f) i among (λ z. item-tells f i among b z .among-after)
 
   feed-among : (g f : List Item) → Each (Brings M) f → AllAmong M (stateOf g) → AllAmong M (after (stateOf g) f)
   unfolding after

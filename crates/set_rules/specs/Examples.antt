@@ -9,7 +9,7 @@ use Rattle.numerals.specs.Digits.{digitsOf}
 use Rattle.set_state.specs.State.{newSet}
 use Rattle.set_rules.specs.Records.{measuredBytes}
 use Rattle.set_rules.specs.Feeds.{Outcome, stepOf, run, after}
-use Rattle.set_rules.specs.Spelling.{dv, entryOf, lent, planEntry, sharedPlan, captureEntry, timeEntry, answerEntry, untilRunning}
+use Rattle.set_rules.specs.Spelling.{dv, entryOf, lent, planEntry, sharedPlan, captureEntry, timeEntry, untilRunning}
 
 -- records to desk 0: a telegram, and a contact
 abbrev pub telegramRecord : List (ℕ × ℕ) → List ℕ

@@ -74,8 +74,8 @@ pub data MayDiffer (B : ℕ) (s : LineSet) (e e′ : List ℕ) : Type 0 where
   same : e ≡ e′ → MayDiffer B s e e′
   talks : Renumbered e e′ → OtherHolds B (channelAt s (byte e 4) .holder) → MayDiffer B s e e′
 
--- Two feeds, each from a set, that differ only so; the buffers are as long as each other, "whatever that held". "Who holds is what the line rules and refusals give
--- for the entries before", in the first feed.
+-- Two feeds, each from a set, that differ only so, with buffers as long as each other, "whatever that held". "Who holds is what the
+-- line rules and refusals give for the entries before", in the first feed.
 pub data Related (B : ℕ) : LineSet → LineSet → List Item → List Item → Type 0 where
   ended : {s s′ : LineSet} → Related B s s′ [] []
   more : {s s′ : LineSet} {i i′ : Item} {f f′ : List Item} → MayDiffer B s (i .entry) (i′ .entry) → length (i .buffer) ≡ length (i′ .buffer)

@@ -1,7 +1,7 @@
--- What the crates of code cite of records and answers, beside the promises: laws, each under the name given with it in
+-- What the crates of code cite of records, answers and plans, beside the promises: laws, each under the name given with it in
 -- `proofs/Kept.antt`. They are proved, and no rule rests on them.
-use Prim.Native.Nat.{ℕ, zero, suc, _/_, _%_, _<_}
-use mathlib.Core.List.{List}
+use Prim.Native.Nat.{ℕ, zero, suc, _+_, _/_, _%_, _<_}
+use mathlib.Core.List.{List, _++_}
 use mathlib.Core.Path.{_≡_}
 use lib.Dec.{eqb}
 use lib.ListN.{length}
@@ -10,6 +10,7 @@ use Rattle.channel.specs.State.{isIn}
 use Rattle.channel.specs.declared.state.Channel.{Channel}
 use Rattle.channel.specs.declared.state.Send.{Send}
 use Rattle.line_rules.specs.Notices.{Content}
+use Rattle.set_rules.specs.Plan.{desksIn, channelsIn}
 use Rattle.set_rules.specs.Records.{Delivery, delivered, recordFor, recordSize, recordsOf, spaceOf}
 use Rattle.set_rules.specs.SetRules.{Effect, sendsOf}
 use Rattle.set_rules.specs.Feeds.{Outcome, Gives, refuse, emit}
@@ -32,6 +33,10 @@ RecordIsLong = (ds : List Desk) (d : ℕ) (x : Content) → length (recordFor ds
 
 abbrev pub SpaceIsLength : Type 0
 SpaceIsLength = (ds : List Desk) (vs : List Delivery) → AllEven vs → spaceOf vs ≡ length (recordsOf ds vs)
+
+-- What is sent in turn takes the space of both (`space-append`).
+abbrev pub SpaceInTurn : Type 0
+SpaceInTurn = (vs ws : List Delivery) → spaceOf (vs ++ ws) ≡ spaceOf vs + spaceOf ws
 
 -- What one channel sends takes the same space to each desk (`even-sends`), and so does what all send (`even-all`).
 abbrev pub EvenSends : Type 0
@@ -70,3 +75,12 @@ NoRoom s b f r = length b < spaceOf (f .sent) → Gives (refuse 16 s) r b b → 
 -- the answer to what is not refused
 abbrev pub acceptedWith : LineSet → ℕ → Answer
 acceptedWith t n = record { set = t; count = n; refusal = 0 }
+
+-- ---- plans
+
+-- A plan has as many desks, and as many channels, as it says (`length-desks`, `length-channels`).
+abbrev pub DesksAsSaid : Type 0
+DesksAsSaid = (n : ℕ) (b : List ℕ) → length (desksIn n b) ≡ n
+
+abbrev pub ChannelsAsSaid : Type 0
+ChannelsAsSaid = (n : ℕ) (b : List ℕ) → length (channelsIn n b) ≡ n
