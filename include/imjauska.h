@@ -44,9 +44,13 @@ extern "C" {
  * address or another; what follows is answered as if nothing had happened. Its first four bytes are "IMJ" and the number of
  * its layout, which imjauska_new writes and imjauska_step leaves; imjauska_is_current tells bytes of this release's layout
  * from those of another. What it can't tell is who wrote the rest. Bytes that no entry made are some set, and every function
- * still does what is said of it here; but what is promised over whole feeds, above all that a desk learns no number of a
- * caller that it was not told of, is promised of sets that came from imjauska_new and imjauska_step alone. So whoever saves a
- * set keeps it where nobody else writes, or signs it.
+ * still does what is said of it here. Over whole feeds two things are proved of the memory itself, where it came from
+ * imjauska_new and imjauska_step alone (crates/controller/specs/Promises.antt, 3 and 4):
+ *   - A desk gets the same records, refusals and counts from two feeds that differ only in the numbers of mobiles that began
+ *     to talk while another desk held their channel. What a desk gets are the records with its desk byte among the first
+ *     *count bytes of the buffer: a caller that passes on more shows it what the buffer held.
+ *   - An accepted handover leaves the set as imjauska_new makes it, number by number.
+ * So whoever saves a set keeps it where nobody else writes, or signs it.
  */
 typedef struct imjauska_set imjauska_set;
 
@@ -94,8 +98,8 @@ void imjauska_new(imjauska_set *set);
  * Takes one entry, its two length bytes included, and writes the records that it sends into the buffer, one after another.
  * Returns IMJAUSKA_ACCEPTED or why the entry was refused; *count becomes the number of bytes written.
  * Accepted: the bytes from *count on stay as they were. Refused: *count is 0, and the set and the buffer stay as they were.
- * After IMJAUSKA_NO_ROOM the same entry may be given again with a larger buffer; 22,976 bytes are enough for every entry (32
- * channels, 4 desks, all that a handover can end: counted, not proved).
+ * After IMJAUSKA_NO_ROOM the same entry may be given again with a larger buffer; 22,976 bytes are proved to be enough for every
+ * entry of a set that came from imjauska_new and imjauska_step (32 channels, 4 desks, all that a handover can end).
  */
 uint8_t imjauska_step(imjauska_set *set, const uint8_t *entry, size_t entry_length, uint8_t *buffer, size_t buffer_length,
                       size_t *count);
