@@ -1,4 +1,4 @@
--- The isolation speaks of something: two different feeds that are related, in which desk 1 receives records.
+-- Isolation speaks of something: two different feeds that are related, in which desk 1 receives records. So does the row of the ticks.
 -- Assumes nothing.
 use Prim.Native.Nat.{ℕ}
 use mathlib.Core.List.{List, [], _∷_}
@@ -10,18 +10,18 @@ use Rattle.numerals.specs.Digits.{digitsOf, allDigits, valueFrom}
 use Rattle.fields.specs.Fields.{bodyOk, valuesIn, bytesOf}
 use Rattle.telegram.specs.Telegram.{headerOk, readTelegram, telegramOf}
 use Rattle.channel.specs.State.{isIn}
-use Rattle.line_rules.specs.Rules.{capture, mobileOn, happens}
+use Rattle.line_rules.specs.Rules.{capture, pressOn, pressOff, mobileOn, tick, tickIdle, tickQuiet, tickRelease, happens}
 use Rattle.set_state.specs.State.{placeOf, runningFrom}
 use Rattle.laws.specs.Table.{pick}
 use Rattle.set_rules.specs.Entries.{readEntry}
 use Rattle.set_rules.specs.Plan.{desksOk, desksIn, hasNumber, distinct, channelsOk, channelsIn, planOk, setOf}
 use Rattle.set_rules.specs.Refusals.{firstOf, refusalOf}
 use Rattle.set_rules.specs.Records.{delivered, toEach, recordsOf, spaceOf}
-use Rattle.set_rules.specs.SetRules.{onChannel, accepted}
-use Rattle.set_rules.specs.Feeds.{Item, outcomeOf, stepOf, cutUp, ofDesk, views, Seen}
+use Rattle.set_rules.specs.SetRules.{onChannel, sendsOf, onTick, accepted}
+use Rattle.set_rules.specs.Feeds.{Item, outcomeOf, stepOf, run, after, cutUp, ofDesk, views, Seen}
 use Rattle.set_rules.specs.Spelling.{spelled, entryOf, lent}
 use Rattle.set_rules.specs.Promises.{same, talks, ended, more, Renumbered}
-use Rattle.set_rules.specs.Witness.{Speaks}
+use Rattle.set_rules.specs.Witness.{Speaks, TicksMet}
 
 renumbered : Renumbered (entryOf 4 (7 ∷ 3 ∷ digitsOf 8 990007)) (entryOf 4 (7 ∷ 3 ∷ digitsOf 8 990008))
 unfolding digitsOf allDigits valueFrom
@@ -54,3 +54,7 @@ witness = record {
   receives = refl;
   learns = λ p. let q : _≡_ {A = ℕ} 55 56 = ap learnt p in omega arith;
 }
+
+pub ticks-met : TicksMet
+unfolding spelled onesIn digitsOf allDigits valueFrom bodyOk valuesIn bytesOf headerOk readTelegram telegramOf isIn capture pressOn pressOff tick tickIdle tickQuiet tickRelease happens placeOf runningFrom readEntry desksOk desksIn hasNumber distinct channelsOk channelsIn planOk setOf firstOf refusalOf delivered toEach recordsOf spaceOf onChannel sendsOf onTick pick accepted outcomeOf stepOf run after
+ticks-met = record { one = refl; held = refl; alone = refl; let-go = refl; taken = refl }

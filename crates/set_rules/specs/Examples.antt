@@ -9,7 +9,7 @@ use Rattle.numerals.specs.Digits.{digitsOf}
 use Rattle.set_state.specs.State.{newSet}
 use Rattle.set_rules.specs.Records.{measuredBytes}
 use Rattle.set_rules.specs.Feeds.{Outcome, stepOf, run, after}
-use Rattle.set_rules.specs.Spelling.{dv, entryOf, lent, planEntry, sharedPlan, captureEntry, timeEntry, untilRunning}
+use Rattle.set_rules.specs.Spelling.{dv, entryOf, lentRoom, lent, planEntry, sharedPlan, captureEntry, timeEntry, untilRunning}
 
 -- records to desk 0: a telegram, and a contact
 abbrev pub telegramRecord : List (ℕ × ℕ) → List ℕ
@@ -40,9 +40,9 @@ listing =
     ∷ (0, (34, stateRecord 0))
     ∷ []
 
--- 01's "whole listing" (`Worked.listed`)
+-- 01's "whole listing", with the replay program's buffers (`Worked.listed`)
 abbrev pub Listed : Type 0
-Listed = map lineOf (run newSet (map lent (untilRunning ++ (captureEntry 7 ∷ entryOf 8 [] ∷ [])))) ≡ listing
+Listed = map lineOf (run newSet (map (lentRoom 32768) (untilRunning ++ (captureEntry 7 ∷ entryOf 8 [] ∷ [])))) ≡ listing
 
 -- ---- single entries
 

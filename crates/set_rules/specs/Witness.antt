@@ -1,13 +1,19 @@
--- Isolation speaks of something: two feeds that differ in a mobile's number, and what each desk makes of them.
+-- Two theorems that ask much of a feed speak of something: isolation, of two feeds that differ in a mobile's number, and the marked
+-- row of the ticks.
 use Prim.Native.Nat.{ℕ}
-use mathlib.Core.List.{List, [], _∷_, map}
+use mathlib.Core.List.{List, [], _∷_, _++_, map}
 use mathlib.Core.Path.{_≡_}
-use lib.ListN.{length}
+use lib.ListN.{length, getD, replicate}
 use Rattle.numerals.specs.Digits.{digitsOf}
-use Rattle.set_state.specs.State.{newSet}
-use Rattle.set_rules.specs.Feeds.{Item, Seen, views}
+use Rattle.channel.specs.declared.state.Arrival.the-variants.{Absent}
+use Rattle.channel.specs.declared.state.Channel.{Channel}
+use Rattle.channel.specs.declared.state.Party.the-variants.{By}
+use Rattle.set_state.specs.State.{newSet, noChannel}
+use Rattle.set_rules.specs.Feeds.{Outcome, Item, stepBy, run, after, Seen, views}
 use Rattle.set_rules.specs.Spelling.{entryOf, lent, sharedPlan, timeEntry, answerEntry, captureEntry}
 use Rattle.set_rules.specs.Promises.{Related}
+use Rattle.set_rules.specs.Marked.{ticksWith}
+use Rattle.set_rules.specs.Examples.{untilHeld, pressEntry}
 
 -- Two desks share channel 7, desk 0 holds it, and a mobile with a number keys up under it.
 abbrev pub sharedFeed : ℕ → List Item
@@ -28,3 +34,21 @@ pub record Speaks : Type 0 where
   pub differ : sharedFeed 990007 ≡ sharedFeed 990008 → ⊥
   pub receives : map (λ (v : Seen). length (v .records)) (views 1 newSet (sharedFeed 990007)) ≡ 21 ∷ 0 ∷ 21 ∷ 0 ∷ 0 ∷ 34 ∷ 0 ∷ []
   pub learns : views 0 newSet (sharedFeed 990007) ≡ views 0 newSet (sharedFeed 990008) → ⊥
+
+-- ---- the ticks
+
+-- Desk 0 of the listing has captured channel 7 and presses.
+abbrev pub pressedFeed : List Item
+pressedFeed = map lent (untilHeld ++ (pressEntry 1 ∷ []))
+
+abbrev pub pressedChannel : Channel
+pressedChannel = getD (after newSet pressedFeed .channels) 0 noChannel
+
+-- All that the row asks for is so: one channel, held, no mobile; its press off is accepted, and so are 130 ticks with buffers of 64
+-- bytes (`Witness.ticks-met`).
+pub record TicksMet : Type 0 where
+  pub one : after newSet pressedFeed .size .channels ≡ 1
+  pub held : pressedChannel .holder ≡ By 0
+  pub alone : pressedChannel .arrival ≡ Absent
+  pub let-go : stepBy (after newSet pressedFeed) (lent (pressEntry 0)) .refusal ≡ 0
+  pub taken : map (λ (o : Outcome). o .refusal) (run (stepBy (after newSet pressedFeed) (lent (pressEntry 0)) .after) (ticksWith (replicate 130 (replicate 64 0)))) ≡ replicate 130 0
