@@ -98,8 +98,10 @@ void imjauska_new(imjauska_set *set);
  * Takes one entry, its two length bytes included, and writes the records that it sends into the buffer, one after another.
  * Returns IMJAUSKA_ACCEPTED or why the entry was refused; *count becomes the number of bytes written.
  * Accepted: the bytes from *count on stay as they were. Refused: *count is 0, and the set and the buffer stay as they were.
- * After IMJAUSKA_NO_ROOM the same entry may be given again with a larger buffer; 22,976 bytes are proved to be enough for every
- * entry of a set that came from imjauska_new and imjauska_step (32 channels, 4 desks, all that a handover can end).
+ * After IMJAUSKA_NO_ROOM the same entry may be given again with a larger buffer; 22,976 bytes are enough for every entry of a set
+ * that came from imjauska_new and imjauska_step (32 channels, 4 desks, all that a handover can end). This is proved of feeds
+ * (crates/set_rules/specs/Promises.antt, 10); that the memory holds the feed's set after each entry is proved too
+ * (crates/controller/specs/Promises.antt, 2).
  */
 uint8_t imjauska_step(imjauska_set *set, const uint8_t *entry, size_t entry_length, uint8_t *buffer, size_t buffer_length,
                       size_t *count);
