@@ -58,7 +58,7 @@ impl Coverage {
             }
             Entry::MobileOn { channel, .. } => self.count_mobile_on(after, channel),
             Entry::MobileOff { channel } => self.count_mobile_off(find(lines, channel)),
-            Entry::Plan(_) => {}
+            Entry::Plan(_) | Entry::MobileCall { .. } | Entry::MobileCancel { .. } => {}
         }
     }
 

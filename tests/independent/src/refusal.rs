@@ -19,7 +19,9 @@ pub enum Refusal {
     Number,
     NotHolder,
     NoChange,
-    Space,
+    /// Nobody to ring, no room for a ring, or none to cancel.
+    Ring = 17,
+    Space = 16,
 }
 
 impl Refusal {
@@ -37,6 +39,8 @@ mod tests {
         assert_eq!(Refusal::Length.number(), 1);
         assert_eq!(Refusal::Header.number(), 8);
         assert_eq!(Refusal::Body.number(), 10);
+        assert_eq!(Refusal::NoChange.number(), 15);
+        assert_eq!(Refusal::Ring.number(), 17);
         assert_eq!(Refusal::Space.number(), 16);
     }
 }

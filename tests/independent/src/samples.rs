@@ -4,8 +4,8 @@
 
 use crate::random::Random;
 
-/// One telegram of each kind.
-pub const SAMPLES: [&str; 10] = [
+/// One telegram of each kind, those of a ring last.
+pub const SAMPLES: [&str; 14] = [
     "DV0030001255041120240229123456",
     "DV0018001255042101",
     "DV00160012550461",
@@ -16,11 +16,24 @@ pub const SAMPLES: [&str; 10] = [
     "DV002900125506000078001200011",
     "DV002000125506500070",
     "DV002900125506510078001200011",
+    "DV003800125504680073800990007800120001",
+    "DV003800125504190073800990007800120001",
+    "DV002000125504690071",
+    "DV0030001255048000731800120001",
 ];
 
 /// The samples that have a CH, and those that have a base after it.
-pub const WITH_CHANNEL: [&str; 6] = [
-    SAMPLES[3], SAMPLES[5], SAMPLES[6], SAMPLES[7], SAMPLES[8], SAMPLES[9],
+pub const WITH_CHANNEL: [&str; 10] = [
+    SAMPLES[3],
+    SAMPLES[5],
+    SAMPLES[6],
+    SAMPLES[7],
+    SAMPLES[8],
+    SAMPLES[9],
+    SAMPLES[10],
+    SAMPLES[11],
+    SAMPLES[12],
+    SAMPLES[13],
 ];
 pub const WITH_BASE: [&str; 3] = [SAMPLES[3], SAMPLES[5], SAMPLES[6]];
 pub const WITH_REASON: &str = SAMPLES[5];
@@ -52,7 +65,7 @@ const DIRECTION: Edges = Edges {
     valid: &["1", "2"],
     wrong: &["0", "3", "4", "5", "6", "7", "8", "9"],
 };
-/// System, state, order, start, media and result.
+/// System, state, order, start, media, accepted and result.
 const FLAG: Edges = Edges {
     valid: &["0", "1"],
     wrong: &["2", "3", "4", "5", "6", "7", "8", "9"],
@@ -102,8 +115,8 @@ const DATE_TIME: Edges = Edges {
     ],
 };
 
-/// Each kind's identifier and the fields of its body.
-pub const LAYOUTS: [(&str, &[Edges]); 10] = [
+/// Each kind's identifier and the fields of its body, in the samples' order.
+pub const LAYOUTS: [(&str, &[Edges]); 14] = [
     ("550411", &[DATE_TIME]),
     ("550421", &[FLAG, FLAG]),
     ("550461", &[]),
@@ -122,7 +135,13 @@ pub const LAYOUTS: [(&str, &[Edges]); 10] = [
     ("550600", &[CHANNEL, LEN, NUMBER, FLAG]),
     ("550650", &[CHANNEL, FLAG]),
     ("550651", &[CHANNEL, LEN, NUMBER, FLAG]),
+    ("550468", &[CHANNEL, CALL_TYPE, LEN, NUMBER, LEN, NUMBER]),
+    ("550419", &[CHANNEL, CALL_TYPE, LEN, NUMBER, LEN, NUMBER]),
+    ("550469", &[CHANNEL, FLAG]),
+    ("550480", &[CHANNEL, CALL_TYPE, FLAG, LEN, NUMBER]),
 ];
+/// How many of them have nothing to do with a ring.
+pub const WITHOUT_RING: usize = 10;
 
 /// The leap years from 2000 to 2099.
 pub const LEAP_YEARS: [usize; 25] = [
@@ -151,9 +170,9 @@ pub fn telegram(code: &str, identifier: &str, body: &[u8]) -> Vec<u8> {
     telegram
 }
 
-/// Any valid telegram of one of the ten kinds.
+/// Any valid telegram.
 pub fn random_telegram(random: &mut Random) -> Vec<u8> {
-    let (identifier, _) = LAYOUTS[random.below(10)];
+    let (identifier, _) = LAYOUTS[random.below(LAYOUTS.len())];
     let code = format!("{:04}", random.within(0, 1023));
     telegram(
         &code,
@@ -177,7 +196,9 @@ fn random_body(identifier: &str, random: &mut Random) -> String {
         ),
         "550477" => format!("{channel}{base}{call_type}{direction}{number}{flag}"),
         "550600" | "550651" => format!("{channel}8{number}{flag}"),
-        "550650" => format!("{channel}{flag}"),
+        "550650" | "550469" => format!("{channel}{flag}"),
+        "550468" | "550419" => format!("{channel}{call_type}8{number}8{other_number}"),
+        "550480" => format!("{channel}{call_type}{flag}8{number}"),
         _ => String::new(),
     }
 }

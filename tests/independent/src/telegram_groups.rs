@@ -401,7 +401,7 @@ fn identifiers(random: &mut Random) -> Vec<Case> {
     cases
 }
 
-/// One of the ten before another's body is left to the two readers.
+/// One of the table before another's body is left to the two readers.
 fn identifier_answer(identifier: &str, sample: &str) -> Option<u8> {
     if *identifier == sample[10..16] {
         return Some(0);
@@ -475,7 +475,7 @@ fn long_frames(random: &mut Random) -> Vec<Case> {
         cases.push(unknown(random.bytes(length)));
         let length = random.within(81, 9983);
         let body = random.bytes(length);
-        let (identifier, _) = LAYOUTS[random.below(10)];
+        let (identifier, _) = LAYOUTS[random.below(LAYOUTS.len())];
         let telegram = samples::telegram("0012", identifier, &body);
         cases.push(known(telegram, 10));
     }
@@ -509,7 +509,7 @@ fn random_damage(random: &mut Random, count: usize) -> Vec<Case> {
 /// come more often, because fields with few values would never fit otherwise.
 fn random_bodies(random: &mut Random, count: usize) -> Vec<Case> {
     let one = |_| {
-        let sample = SAMPLES[random.below(10)];
+        let sample = SAMPLES[random.below(SAMPLES.len())];
         let digits = random.pick(&["01", "012", "0018", "0123589", "0123456789"]);
         let mut telegram = sample.as_bytes().to_vec();
         for byte in &mut telegram[16..] {

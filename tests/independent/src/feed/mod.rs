@@ -9,6 +9,8 @@
 //! mobile-off 7                                channel
 //! tick 130                                    so many ticks; one without a count
 //! handover
+//! mobile-call 7 3 00990007 00120001           channel, base, number, called number
+//! mobile-cancel 7                             channel
 //! raw 00021a                                  any bytes, in hex, the length included
 //! # a comment
 //! ```

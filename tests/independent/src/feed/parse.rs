@@ -75,6 +75,15 @@ fn parse_entry<'a>(name: &str, words: &[&'a str]) -> Parsed<Entry<'a>> {
             channel: byte("channel", channel)?,
         },
         ("handover", []) => Entry::Handover,
+        ("mobile-call", &[channel, base, number, called]) => Entry::MobileCall {
+            channel: byte("channel", channel)?,
+            base: byte("base", base)?,
+            number: parse_number(number)?,
+            called: parse_number(called)?,
+        },
+        ("mobile-cancel", &[channel]) => Entry::MobileCancel {
+            channel: byte("channel", channel)?,
+        },
         _ => return Err(wanted(name)),
     })
 }
@@ -88,6 +97,8 @@ fn wanted(name: &str) -> String {
         "mobile-on" => "mobile-on CHANNEL BASE NUMBER",
         "mobile-off" => "mobile-off CHANNEL",
         "handover" => "handover",
+        "mobile-call" => "mobile-call CHANNEL BASE NUMBER CALLED",
+        "mobile-cancel" => "mobile-cancel CHANNEL",
         _ => return format!("there is no entry '{name}'"),
     };
     format!("'{name}' is written: {form}")

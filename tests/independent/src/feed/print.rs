@@ -122,6 +122,16 @@ fn in_words(entry: &Entry) -> Option<String> {
         Entry::Tick => "tick".to_string(),
         Entry::Plan(plan) => plan_in_words(plan)?,
         Entry::Handover => "handover".to_string(),
+        Entry::MobileCall {
+            channel,
+            base,
+            ref number,
+            ref called,
+        } => {
+            let (number, called) = (ascii(number), ascii(called));
+            format!("mobile-call {channel} {base} {number} {called}")
+        }
+        Entry::MobileCancel { channel } => format!("mobile-cancel {channel}"),
     })
 }
 

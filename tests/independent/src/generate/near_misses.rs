@@ -123,7 +123,7 @@ impl Scene<'_> {
     }
 
     fn wild_telegram_of_any_kind(&mut self) -> Vec<u8> {
-        let (identifier, _) = samples::LAYOUTS[self.random.below(10)];
+        let (identifier, _) = samples::LAYOUTS[self.random.below(samples::WITHOUT_RING)];
         self.wild_telegram(identifier)
     }
 

@@ -6,9 +6,12 @@ use crate::telegram::Message;
 
 const QUIET_SECONDS: u8 = 10;
 const RELEASE_SECONDS: u8 = 120;
+const RING_SECONDS: u8 = 15;
 
 const NONE_NUMBER: u32 = 0;
-const GENERAL: u32 = 1;
+pub const GENERAL: u32 = 1;
+/// The type of a call that rang one desk.
+pub const INDIVIDUAL: u32 = 3;
 const DOWN: u32 = 1;
 const UP: u32 = 2;
 /// The base of calls that a desk starts.
@@ -16,11 +19,14 @@ const DESK_BASE: u32 = 999;
 
 const STARTED: u32 = 0;
 const ENDED_BY_CUT: u32 = 1;
+/// By the mobile's cancel, too.
 const ENDED_BY_HANDOVER: u32 = 2;
 const ENDED_BY_QUIET: u32 = 3;
+const ENDED_WITHOUT_ANSWER: u32 = 5;
 
 #[derive(Clone, Copy, Debug, PartialEq, Eq)]
 pub struct Call {
+    pub call_type: u32,
     pub direction: u32,
     pub base: u32,
     pub source: u32,
@@ -29,9 +35,20 @@ pub struct Call {
 
 #[derive(Clone, Copy, Debug, PartialEq, Eq)]
 pub struct Arrival {
+    /// Of the call in which it began, which it may outlive.
+    pub call_type: u32,
     pub base: u8,
     pub number: u32,
     pub recipients: Desks,
+}
+
+/// A mobile waits for the called desk. While it does, its call is open.
+#[derive(Clone, Copy, Debug, PartialEq, Eq)]
+pub struct Ring {
+    pub desk: u8,
+    pub number: u32,
+    /// Until it ends without an answer.
+    pub seconds: u8,
 }
 
 #[derive(Clone, Copy, Debug, PartialEq, Eq)]
@@ -42,23 +59,48 @@ pub struct Channel {
     pub pressed: bool,
     pub call: Option<Call>,
     pub arrival: Option<Arrival>,
+    pub ring: Option<Ring>,
     /// Seconds until the call ends and until the holder goes, 0 if stopped.
     pub quiet: u8,
     pub release: u8,
 }
 
+/// What a desk's 550419 says; it need not match a ring.
+#[derive(Clone, Copy, Debug, PartialEq, Eq)]
+pub struct Answer {
+    pub desk: u8,
+    pub call_type: u32,
+    pub source: u32,
+    pub destination: u32,
+}
+
 /// What can happen to one channel. Whoever presses or cuts holds it.
 #[derive(Clone, Copy, Debug, PartialEq, Eq)]
 pub enum Event {
-    Capture { desk: u8 },
-    Release { desk: u8 },
+    Capture {
+        desk: u8,
+    },
+    Release {
+        desk: u8,
+    },
     PressOn,
     PressOff,
     Cut,
-    MobileOn { base: u8, number: u32 },
+    MobileOn {
+        base: u8,
+        number: u32,
+    },
     MobileOff,
     Tick,
     Handover,
+    /// The desk is one that may be called, on a channel that is idle.
+    MobileCall {
+        base: u8,
+        number: u32,
+        desk: u8,
+    },
+    MobileCancel,
+    Answer(Answer),
 }
 
 impl Channel {
@@ -70,6 +112,7 @@ impl Channel {
             pressed: false,
             call: None,
             arrival: None,
+            ring: None,
             quiet: 0,
             release: 0,
         }
@@ -86,11 +129,25 @@ impl Channel {
             Event::MobileOff => self.mobile_off(out),
             Event::Tick => self.tick(desks, out),
             Event::Handover => self.handover(desks, out),
+            Event::MobileCall { base, number, desk } => {
+                self.mobile_call(base, number, desk, desks, out);
+            }
+            Event::MobileCancel => self.end_ring(ENDED_BY_HANDOVER, desks, out),
+            Event::Answer(answer) => self.answer(&answer, desks, out),
         }
+    }
+
+    /// Whether a mobile may ring a desk on it.
+    pub fn is_idle(&self) -> bool {
+        self.holder.is_none()
+            && self.call.is_none()
+            && self.arrival.is_none()
+            && self.ring.is_none()
     }
 
     fn capture(&mut self, desk: u8, desks: &[Desk], out: &mut impl Records) {
         match self.holder {
+            None if self.ring.is_some() => self.send_reply(desk, false, out),
             None => {
                 self.holder = Some(desk);
                 self.release = RELEASE_SECONDS;
@@ -130,6 +187,7 @@ impl Channel {
         out.contact(recipients, Contact::PressAnswer, self.code, true);
         self.open_call(
             Call {
+                call_type: GENERAL,
                 direction: DOWN,
                 base: DESK_BASE,
                 source,
@@ -137,7 +195,7 @@ impl Channel {
             },
             out,
         );
-        let notice = self.caller_notice(DOWN, DESK_BASE, source, true);
+        let notice = self.press_notice(source, true);
         out.telegram(recipients, &notice);
     }
 
@@ -155,7 +213,9 @@ impl Channel {
             Some(holder) => Desks::only(holder),
             None => self.listeners(desks),
         };
+        let call_type = self.call_type();
         let arrival = Arrival {
+            call_type,
             base,
             number,
             recipients,
@@ -169,6 +229,7 @@ impl Channel {
         out.telegram(recipients, &self.base_arrival(&arrival, true));
         self.open_call(
             Call {
+                call_type,
                 direction: UP,
                 base: base.into(),
                 source: number,
@@ -176,8 +237,7 @@ impl Channel {
             },
             out,
         );
-        let notice = self.caller_notice(UP, base.into(), number, true);
-        out.telegram(recipients, &notice);
+        out.telegram(recipients, &self.arrival_notice(&arrival, true));
     }
 
     fn mobile_off(&mut self, out: &mut impl Records) {
@@ -191,8 +251,91 @@ impl Channel {
         }
     }
 
+    /// To the called desk alone; the others must not learn the number.
+    fn mobile_call(
+        &mut self,
+        base: u8,
+        number: u32,
+        desk: u8,
+        desks: &[Desk],
+        out: &mut impl Records,
+    ) {
+        let recipients = Desks::only(desk);
+        self.ring = Some(Ring {
+            desk,
+            number,
+            seconds: RING_SECONDS,
+        });
+        out.contact(recipients, Contact::Incoming, self.code, true);
+        let notice = Message::RingNotice {
+            channel: self.code.into(),
+            call_type: INDIVIDUAL,
+            source: number,
+            destination: desks[usize::from(desk)].number,
+        };
+        out.telegram(recipients, &notice);
+        self.open_call(
+            Call {
+                call_type: INDIVIDUAL,
+                direction: UP,
+                base: base.into(),
+                source: number,
+                recipients,
+            },
+            out,
+        );
+    }
+
+    /// The desk that answers has captured the channel; the call stays open.
+    fn answer(&mut self, answer: &Answer, desks: &[Desk], out: &mut impl Records) {
+        let desk = answer.desk;
+        let matches = self.is_answered_by(answer, desks);
+        let reply = Message::AnswerReply {
+            channel: self.code.into(),
+            accepted: matches.into(),
+        };
+        out.telegram(Desks::only(desk), &reply);
+        if !matches {
+            return;
+        }
+        self.ring = None;
+        self.holder = Some(desk);
+        self.release = RELEASE_SECONDS;
+        self.quiet = QUIET_SECONDS;
+        self.send_call_result(desk, true, desks, out);
+        self.send_state(true, desks, out);
+    }
+
+    /// Whether the answer is the called desk's and says all that the notice did.
+    pub fn is_answered_by(&self, answer: &Answer, desks: &[Desk]) -> bool {
+        self.ring.is_some_and(|ring| {
+            let notice = Answer {
+                desk: ring.desk,
+                call_type: INDIVIDUAL,
+                source: ring.number,
+                destination: desks[usize::from(ring.desk)].number,
+            };
+            *answer == notice
+        })
+    }
+
+    /// A ring that nobody answered.
+    fn end_ring(&mut self, reason: u32, desks: &[Desk], out: &mut impl Records) {
+        let Some(ring) = self.ring.take() else { return };
+        out.contact(Desks::only(ring.desk), Contact::Incoming, self.code, false);
+        self.send_call_result(ring.desk, false, desks, out);
+        self.end_call(reason, out);
+    }
+
     /// Only one of the timers falls in a tick.
     fn tick(&mut self, desks: &[Desk], out: &mut impl Records) {
+        if let Some(ring) = &mut self.ring {
+            ring.seconds -= 1;
+            if ring.seconds == 0 {
+                self.end_ring(ENDED_WITHOUT_ANSWER, desks, out);
+            }
+            return;
+        }
         if self.pressed || self.arrival.is_some() {
             return;
         }
@@ -212,6 +355,9 @@ impl Channel {
 
     /// Whether the next tick ends a timer; no other tick sends anything.
     pub fn is_due(&self) -> bool {
+        if let Some(ring) = self.ring {
+            return ring.seconds == 1;
+        }
         let due = self.quiet == 1 || self.quiet == 0 && self.release == 1;
         due && !self.pressed && self.arrival.is_none()
     }
@@ -219,6 +365,7 @@ impl Channel {
     fn handover(&mut self, desks: &[Desk], out: &mut impl Records) {
         self.send_press_off(desks, out);
         self.send_mobile_off(out);
+        self.end_ring(ENDED_BY_HANDOVER, desks, out);
         self.end_call(ENDED_BY_HANDOVER, out);
         self.send_state(false, desks, out);
     }
@@ -248,7 +395,7 @@ impl Channel {
         let recipients = Desks::only(holder);
         let number = desks[usize::from(holder)].number;
         out.contact(recipients, Contact::PressAnswer, self.code, false);
-        let notice = self.caller_notice(DOWN, DESK_BASE, number, false);
+        let notice = self.press_notice(number, false);
         out.telegram(recipients, &notice);
     }
 
@@ -258,8 +405,7 @@ impl Channel {
         let recipients = arrival.recipients;
         out.contact(recipients, Contact::Incoming, self.code, false);
         out.telegram(recipients, &self.base_arrival(&arrival, false));
-        let notice = self.caller_notice(UP, arrival.base.into(), arrival.number, false);
-        out.telegram(recipients, &notice);
+        out.telegram(recipients, &self.arrival_notice(&arrival, false));
     }
 
     fn send_reply(&self, desk: u8, granted: bool, out: &mut impl Records) {
@@ -268,6 +414,16 @@ impl Channel {
             result: (!granted).into(),
         };
         out.telegram(Desks::only(desk), &reply);
+    }
+
+    fn send_call_result(&self, desk: u8, answered: bool, desks: &[Desk], out: &mut impl Records) {
+        let result = Message::CallResult {
+            channel: self.code.into(),
+            call_type: INDIVIDUAL,
+            result: answered.into(),
+            destination: desks[usize::from(desk)].number,
+        };
+        out.telegram(Desks::only(desk), &result);
     }
 
     /// Nobody but the holder learns the holder's number.
@@ -292,7 +448,7 @@ impl Channel {
         Message::CallStartEnd {
             channel: self.code.into(),
             base: call.base,
-            call_type: GENERAL,
+            call_type: call.call_type,
             media: 0,
             direction: call.direction,
             start: start.into(),
@@ -302,13 +458,31 @@ impl Channel {
         }
     }
 
-    fn caller_notice(&self, direction: u32, base: u32, number: u32, on: bool) -> Message {
+    /// The type of what begins now: that of the open call, or of the one that
+    /// it opens itself.
+    fn call_type(&self) -> u32 {
+        self.call.map_or(GENERAL, |call| call.call_type)
+    }
+
+    /// A press ends before its call does, so the call gives it its type.
+    fn press_notice(&self, number: u32, on: bool) -> Message {
         Message::CallerNotice {
             channel: self.code.into(),
-            base,
-            call_type: GENERAL,
-            direction,
+            base: DESK_BASE,
+            call_type: self.call_type(),
+            direction: DOWN,
             number,
+            order: on.into(),
+        }
+    }
+
+    fn arrival_notice(&self, arrival: &Arrival, on: bool) -> Message {
+        Message::CallerNotice {
+            channel: self.code.into(),
+            base: arrival.base.into(),
+            call_type: arrival.call_type,
+            direction: UP,
+            number: arrival.number,
             order: on.into(),
         }
     }
@@ -317,7 +491,7 @@ impl Channel {
         Message::BaseArrival {
             channel: self.code.into(),
             base: arrival.base.into(),
-            call_type: GENERAL,
+            call_type: arrival.call_type,
             number: arrival.number,
             order: on.into(),
         }

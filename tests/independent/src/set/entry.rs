@@ -36,6 +36,15 @@ pub enum Entry<'a> {
     Tick,
     Plan(&'a [u8]),
     Handover,
+    MobileCall {
+        channel: u8,
+        base: u8,
+        number: [u8; 8],
+        called: [u8; 8],
+    },
+    MobileCancel {
+        channel: u8,
+    },
 }
 
 /// Takes a whole entry apart; the refusals are 1 to 3.
@@ -50,7 +59,11 @@ pub fn read(bytes: &[u8]) -> Result<Entry<'_>, Refusal> {
         return Err(Refusal::Version);
     }
     match shape(kind, payload) {
-        Some(Entry::MobileOn { base, .. }) if base > HIGHEST_BASE => Err(Refusal::Shape),
+        Some(Entry::MobileOn { base, .. } | Entry::MobileCall { base, .. })
+            if base > HIGHEST_BASE =>
+        {
+            Err(Refusal::Shape)
+        }
         Some(entry) => Ok(entry),
         None => Err(Refusal::Shape),
     }
@@ -96,6 +109,16 @@ fn shape(kind: u8, payload: &[u8]) -> Option<Entry<'_>> {
         (6, []) => Entry::Tick,
         (7, plan) => Entry::Plan(plan),
         (8, []) => Entry::Handover,
+        (9, &[channel, base, ref numbers @ ..]) => {
+            let (number, called) = numbers.split_at_checked(8)?;
+            Entry::MobileCall {
+                channel,
+                base,
+                number: number.try_into().ok()?,
+                called: called.try_into().ok()?,
+            }
+        }
+        (10, &[channel]) => Entry::MobileCancel { channel },
         _ => return None,
     })
 }
@@ -116,6 +139,13 @@ impl Entry<'_> {
             Entry::Tick => push(feed, 6, &[]),
             Entry::Plan(plan) => push(feed, 7, &[plan]),
             Entry::Handover => push(feed, 8, &[]),
+            Entry::MobileCall {
+                channel,
+                base,
+                ref number,
+                ref called,
+            } => push(feed, 9, &[&[channel, base], number, called]),
+            Entry::MobileCancel { channel } => push(feed, 10, &[&[channel]]),
         }
     }
 

@@ -1,7 +1,7 @@
-//! What an entry asks of a set with a plan, or why it is refused: 5 and 7 to
-//! 15, in order.
+//! What an entry asks of a set with a plan, or why it is refused: 5, 7 to 15
+//! and 17, in order.
 
-use super::channel::{Channel, Event};
+use super::channel::{Answer, Channel, Event};
 use super::desks::{Desk, Phase};
 use super::entry::Entry;
 use super::plan::{self, Lines};
@@ -33,6 +33,13 @@ impl Lines {
             Entry::Tick => Ok(Action::Tick),
             Entry::Plan(_) => Err(Refusal::PlanPresent),
             Entry::Handover => Ok(Action::Handover),
+            Entry::MobileCall {
+                channel,
+                base,
+                number,
+                called,
+            } => self.judge_mobile_call(channel, base, &number, &called),
+            Entry::MobileCancel { channel } => self.judge_mobile_cancel(channel),
         }
     }
 
@@ -45,22 +52,42 @@ impl Lines {
         let needed = match identifier {
             550411 => Phase::AwaitsTime,
             550421 => Phase::AwaitsOperation,
-            550600 => Phase::Running,
+            550419 | 550600 => Phase::Running,
             _ => return Err(Refusal::Identifier),
         };
         let message = telegram::read_body(identifier, &telegram[telegram::HEADER..])?;
         in_phase(desk, needed)?;
+        self.judge_message(place, message)
+    }
+
+    /// A message of a desk in the phase for it.
+    fn judge_message(&self, desk: u8, message: Message) -> Result<Action, Refusal> {
         match message {
             Message::OperationAnswer { state, .. } => Ok(Action::OperationAnswer {
-                desk: place,
+                desk,
                 runs: state == 1,
             }),
             Message::CaptureRequest {
                 channel,
                 number,
                 order,
-            } => self.judge_request(place, channel, number, order),
-            _ => Ok(Action::TimeNotice { desk: place }),
+            } => self.judge_request(desk, channel, number, order),
+            Message::RingAnswer {
+                channel,
+                call_type,
+                source,
+                destination,
+            } => {
+                let (place, _) = self.named_channel(desk, channel)?;
+                let event = Event::Answer(Answer {
+                    desk,
+                    call_type,
+                    source,
+                    destination,
+                });
+                Ok(Action::Channel { place, event })
+            }
+            _ => Ok(Action::TimeNotice { desk }),
         }
     }
 
@@ -71,8 +98,7 @@ impl Lines {
         number: u32,
         order: u32,
     ) -> Result<Action, Refusal> {
-        let code = u8::try_from(channel).map_err(|_| Refusal::Channel)?;
-        let (place, _) = self.entitled_channel(desk, code)?;
+        let (place, _) = self.named_channel(desk, channel)?;
         if number != self.desks[usize::from(desk)].number {
             return Err(Refusal::Number);
         }
@@ -101,7 +127,7 @@ impl Lines {
     fn judge_mobile_on(&self, code: u8, base: u8, number: &[u8]) -> Result<Action, Refusal> {
         let (place, channel) = self.channel(code)?;
         let number = plan::read_number(number).ok_or(Refusal::Number)?;
-        if channel.arrival.is_some() {
+        if channel.arrival.is_some() || channel.ring.is_some() {
             return Err(Refusal::NoChange);
         }
         let event = Event::MobileOn { base, number };
@@ -114,6 +140,34 @@ impl Lines {
             return Err(Refusal::NoChange);
         }
         let event = Event::MobileOff;
+        Ok(Action::Channel { place, event })
+    }
+
+    fn judge_mobile_call(
+        &self,
+        code: u8,
+        base: u8,
+        number: &[u8],
+        called: &[u8],
+    ) -> Result<Action, Refusal> {
+        let (place, channel) = self.channel(code)?;
+        let number = plan::read_number(number).ok_or(Refusal::Number)?;
+        let called = plan::read_number(called).ok_or(Refusal::Number)?;
+        let mut listeners = channel.listeners(&self.desks).iter();
+        let desk = listeners
+            .find(|&desk| self.desks[usize::from(desk)].number == called)
+            .filter(|_| channel.is_idle())
+            .ok_or(Refusal::Ring)?;
+        let event = Event::MobileCall { base, number, desk };
+        Ok(Action::Channel { place, event })
+    }
+
+    fn judge_mobile_cancel(&self, code: u8) -> Result<Action, Refusal> {
+        let (place, channel) = self.channel(code)?;
+        if channel.ring.is_none() {
+            return Err(Refusal::Ring);
+        }
+        let event = Event::MobileCancel;
         Ok(Action::Channel { place, event })
     }
 
@@ -132,6 +186,12 @@ impl Lines {
             .ok()
             .filter(|(_, channel)| channel.entitled.contains(desk))
             .ok_or(Refusal::Channel)
+    }
+
+    /// The channel that a desk's telegram names.
+    fn named_channel(&self, desk: u8, channel: u32) -> Result<(usize, &Channel), Refusal> {
+        let code = u8::try_from(channel).map_err(|_| Refusal::Channel)?;
+        self.entitled_channel(desk, code)
     }
 
     /// For press and cut, which need a running desk that holds the channel.

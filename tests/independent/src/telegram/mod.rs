@@ -1,4 +1,4 @@
-//! Telegrams on the command link: the ten messages, a reader and a writer.
+//! Telegrams on the command link: the messages, a reader and a writer.
 
 mod ranges;
 mod reader;
@@ -23,8 +23,8 @@ pub struct DateTime {
     pub second: u32,
 }
 
-/// The ten messages. Values are kept as the numbers their digits spell, so
-/// the type can also hold values out of range; the writer refuses those.
+/// The messages. Values are kept as the numbers their digits spell, so the
+/// type can also hold values out of range; the writer refuses those.
 #[derive(Clone, Copy, Debug, PartialEq, Eq)]
 pub enum Message {
     TimeNotice(DateTime),
@@ -74,6 +74,28 @@ pub enum Message {
         number: u32,
         state: u32,
     },
+    RingNotice {
+        channel: u32,
+        call_type: u32,
+        source: u32,
+        destination: u32,
+    },
+    RingAnswer {
+        channel: u32,
+        call_type: u32,
+        source: u32,
+        destination: u32,
+    },
+    AnswerReply {
+        channel: u32,
+        accepted: u32,
+    },
+    CallResult {
+        channel: u32,
+        call_type: u32,
+        result: u32,
+        destination: u32,
+    },
 }
 
 impl Message {
@@ -89,6 +111,10 @@ impl Message {
             Message::CaptureRequest { .. } => 550600,
             Message::CaptureReply { .. } => 550650,
             Message::CaptureState { .. } => 550651,
+            Message::RingNotice { .. } => 550468,
+            Message::RingAnswer { .. } => 550419,
+            Message::AnswerReply { .. } => 550469,
+            Message::CallResult { .. } => 550480,
         }
     }
 
@@ -102,7 +128,9 @@ impl Message {
             Message::CallStartEnd { .. } => 46,
             Message::CallerNotice { .. } => 33,
             Message::CaptureRequest { .. } | Message::CaptureState { .. } => 29,
-            Message::CaptureReply { .. } => 20,
+            Message::CaptureReply { .. } | Message::AnswerReply { .. } => 20,
+            Message::RingNotice { .. } | Message::RingAnswer { .. } => 38,
+            Message::CallResult { .. } => 30,
         }
     }
 }

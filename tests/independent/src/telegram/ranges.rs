@@ -26,6 +26,14 @@ pub fn in_range(message: &Message) -> bool {
         Message::CaptureReply { channel, result } => is_channel(channel) && is_flag(result),
         Message::CaptureState { channel, number, state } =>
             is_channel(channel) && is_number(number) && is_flag(state),
+        Message::RingNotice { channel, call_type, source, destination }
+        | Message::RingAnswer { channel, call_type, source, destination } =>
+            is_channel(channel) && is_call_type(call_type)
+                && is_number(source) && is_number(destination),
+        Message::AnswerReply { channel, accepted } => is_channel(channel) && is_flag(accepted),
+        Message::CallResult { channel, call_type, result, destination } =>
+            is_channel(channel) && is_call_type(call_type)
+                && is_flag(result) && is_number(destination),
     }
 }
 

@@ -30,8 +30,8 @@ pub fn read_code(bytes: &[u8]) -> Result<u16, Refusal> {
 pub fn read_identifier(bytes: &[u8]) -> Result<u32, Refusal> {
     match decimal(&bytes[10..HEADER]) {
         Some(
-            known @ (550411 | 550421 | 550461 | 550464 | 550471 | 550473 | 550477 | 550600 | 550650
-            | 550651),
+            known @ (550411 | 550419 | 550421 | 550461 | 550464 | 550468 | 550469 | 550471 | 550473
+            | 550477 | 550480 | 550600 | 550650 | 550651),
         ) => Ok(known),
         _ => Err(Refusal::Identifier),
     }
@@ -42,12 +42,16 @@ pub fn read_body(identifier: u32, body: &[u8]) -> Result<Message, Refusal> {
     let mut fields = Fields(body);
     let message = match identifier {
         550411 => read_time_notice(&mut fields),
+        550419 => read_ring_answer(&mut fields),
         550421 => read_operation_answer(&mut fields),
         550461 => Some(Message::TimeRequest),
         550464 => read_base_arrival(&mut fields),
+        550468 => read_ring_notice(&mut fields),
+        550469 => read_answer_reply(&mut fields),
         550471 => Some(Message::OperationRequest),
         550473 => read_call_start_end(&mut fields),
         550477 => read_caller_notice(&mut fields),
+        550480 => read_call_result(&mut fields),
         550600 => read_capture_request(&mut fields),
         550650 => read_capture_reply(&mut fields),
         550651 => read_capture_state(&mut fields),
@@ -175,5 +179,39 @@ fn read_capture_state(fields: &mut Fields) -> Option<Message> {
         channel: fields.channel()?,
         number: fields.counted_number()?,
         state: fields.digit()?,
+    })
+}
+
+fn read_ring_notice(fields: &mut Fields) -> Option<Message> {
+    Some(Message::RingNotice {
+        channel: fields.channel()?,
+        call_type: fields.digit()?,
+        source: fields.counted_number()?,
+        destination: fields.counted_number()?,
+    })
+}
+
+fn read_ring_answer(fields: &mut Fields) -> Option<Message> {
+    Some(Message::RingAnswer {
+        channel: fields.channel()?,
+        call_type: fields.digit()?,
+        source: fields.counted_number()?,
+        destination: fields.counted_number()?,
+    })
+}
+
+fn read_answer_reply(fields: &mut Fields) -> Option<Message> {
+    Some(Message::AnswerReply {
+        channel: fields.channel()?,
+        accepted: fields.digit()?,
+    })
+}
+
+fn read_call_result(fields: &mut Fields) -> Option<Message> {
+    Some(Message::CallResult {
+        channel: fields.channel()?,
+        call_type: fields.digit()?,
+        result: fields.digit()?,
+        destination: fields.counted_number()?,
     })
 }

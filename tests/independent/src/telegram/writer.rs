@@ -90,15 +90,29 @@ fn write_body(message: &Message, digits: &mut Digits) {
             digits.number(number);
             digits.digit(order);
         }
-        Message::CaptureReply { channel, result } => {
+        Message::CaptureReply { channel, result: last }
+        | Message::AnswerReply { channel, accepted: last } => {
             digits.channel(channel);
-            digits.digit(result);
+            digits.digit(last);
         }
         Message::CaptureRequest { channel, number, order: last }
         | Message::CaptureState { channel, number, state: last } => {
             digits.channel(channel);
             digits.counted_number(number);
             digits.digit(last);
+        }
+        Message::RingNotice { channel, call_type, source, destination }
+        | Message::RingAnswer { channel, call_type, source, destination } => {
+            digits.channel(channel);
+            digits.digit(call_type);
+            digits.counted_number(source);
+            digits.counted_number(destination);
+        }
+        Message::CallResult { channel, call_type, result, destination } => {
+            digits.channel(channel);
+            digits.digit(call_type);
+            digits.digit(result);
+            digits.counted_number(destination);
         }
     }
 }
