@@ -35,6 +35,8 @@ mobile-on 7 3 00990007
 mobile-off 7
 tick
 handover
+mobile-call 7 3 00990007 00120001
+mobile-cancel 7
 tick 130
 raw 00021a06
 raw 0002
@@ -45,6 +47,8 @@ raw 0002
     assert!(feed.starts_with(plan));
     let press = b"\0\x05\x01\x02\0\x07\x01";
     assert!(feed.windows(press.len()).any(|bytes| bytes == press));
+    let call = b"\0\x14\x01\x09\x07\x030099000700120001\0\x03\x01\x0a\x07";
+    assert!(feed.windows(call.len()).any(|bytes| bytes == call));
 }
 
 #[test]
@@ -118,6 +122,12 @@ fn what_no_words_say_is_raw() {
         "000401010023",
         "0005010200070200",
         "0003010600",
+        "00130109070330303939303030373030313230303030",
+        "00150109070330303939303030373030313230303031ff",
+        "001401090703303039393030303730303132303030ff",
+        "0002010a",
+        "0004010a0700",
+        "0003010b07",
         "000201",
         "0000",
         "00",
@@ -147,7 +157,7 @@ fn round_trip_of_random_bytes() {
         for place in 0..size {
             match random.below(4) {
                 0 => bytes[place] = 0,
-                1 => bytes[place] = random.within(1, 8) as u8,
+                1 => bytes[place] = random.within(1, 10) as u8,
                 2 => bytes[place] = random.within(b' '.into(), b'~'.into()) as u8,
                 _ => {}
             }
@@ -200,6 +210,18 @@ fn messages() {
             "line 1: '65536' is not a code, 0 to 65535",
         ),
         ("handover now", "line 1: 'handover' is written: handover"),
+        (
+            "mobile-call 7 3 00990007",
+            "line 1: 'mobile-call' is written: mobile-call CHANNEL BASE NUMBER CALLED",
+        ),
+        (
+            "mobile-call 7 3 00990007 0012001",
+            "line 1: '0012001' is not a number of 8 characters",
+        ),
+        (
+            "mobile-cancel",
+            "line 1: 'mobile-cancel' is written: mobile-cancel CHANNEL",
+        ),
         ("telegram 0 D\u{e9}", "line 1: 'D\u{e9}' is not ASCII"),
     ] {
         assert_eq!(to_binary(text.as_bytes()).unwrap_err(), message);

@@ -91,6 +91,80 @@ fn call_start_end() {
 }
 
 #[test]
+fn telegrams_of_a_ring() {
+    let (channel, call_type) = (7, 3);
+    let (source, destination) = (990_007, 120_001);
+    let notice = Message::RingNotice {
+        channel,
+        call_type,
+        source,
+        destination,
+    };
+    let answer = Message::RingAnswer {
+        channel,
+        call_type,
+        source,
+        destination,
+    };
+    let reply = Message::AnswerReply {
+        channel,
+        accepted: 1,
+    };
+    let result = Message::CallResult {
+        channel,
+        call_type,
+        result: 1,
+        destination,
+    };
+    same("DV003800125504680073800990007800120001", 12, notice);
+    same("DV003800125504190073800990007800120001", 12, answer);
+    same("DV002000125504690071", 12, reply);
+    same("DV0030001255048000731800120001", 12, result);
+}
+
+/// They have the ranges that each kind of field has elsewhere.
+#[test]
+fn edges_of_a_ring() {
+    for identifier in ["550468", "550419"] {
+        let body = |body: &str| refusal(&format!("DV00380012{identifier}{body}"));
+        for good in [
+            "0001800000000800000000",
+            "0992899999999899999999",
+            "1873800990007800120001",
+            "2063800990007800120001",
+            "9993800990007800120001",
+        ] {
+            assert_eq!(body(good), None, "{good}");
+        }
+        for bad in [
+            "1003800990007800120001",
+            "1863800990007800120001",
+            "2073800990007800120001",
+            "0070800990007800120001",
+            "0074800990007800120001",
+            "0073700990007800120001",
+            "0073800990007900120001",
+            "007380099000x800120001",
+            "007380099000780012000x",
+            "007x800990007800120001",
+        ] {
+            assert_eq!(body(bad), Some(10), "{bad}");
+        }
+    }
+    assert_eq!(refusal("DV002000125504699990"), None);
+    assert_eq!(refusal("DV002000125504690072"), Some(10));
+    assert_eq!(refusal("DV0030001255048099910800000000"), None);
+    assert_eq!(refusal("DV0030001255048000700800120001"), Some(10));
+    assert_eq!(refusal("DV0030001255048000740800120001"), Some(10));
+    assert_eq!(refusal("DV0030001255048000732800120001"), Some(10));
+    assert_eq!(refusal("DV0030001255048000731700120001"), Some(10));
+    assert_eq!(refusal("DV003100125504800073180012000100"), Some(8));
+    assert_eq!(refusal("DV00310012550480007318001200010"), Some(10));
+    assert_eq!(refusal("DV003700125504190073800990007800120"), Some(8));
+    assert_eq!(refusal("DV00370012550419007380099000780012000"), Some(10));
+}
+
+#[test]
 fn named_edges() {
     assert_eq!(refusal("DV0030001255041120240229120000"), None);
     assert_eq!(refusal("DV0030001255041120230229120000"), Some(10));
@@ -233,6 +307,19 @@ fn writer_refuses_values_out_of_range() {
     };
     assert!(request(99_999_999).is_ok());
     assert_eq!(request(100_000_000), Err(Refusal::Body));
+    let result = |call_type, result, destination| {
+        let message = Message::CallResult {
+            channel: 7,
+            call_type,
+            result,
+            destination,
+        };
+        written(12, &message)
+    };
+    assert!(result(3, 1, 99_999_999).is_ok());
+    assert_eq!(result(4, 1, 99_999_999), Err(Refusal::Body));
+    assert_eq!(result(3, 2, 99_999_999), Err(Refusal::Body));
+    assert_eq!(result(3, 1, 100_000_000), Err(Refusal::Body));
 }
 
 #[test]
