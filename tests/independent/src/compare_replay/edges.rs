@@ -14,8 +14,8 @@ const BEGINNING: &str = "
     telegram 0 DV002900125506000078001200011
 ";
 
-/// One entry of each kind behind which a feed breaks off.
-const LAST: [&str; 8] = [
+/// Entries of each kind behind which a feed breaks off.
+const LAST: [&str; 11] = [
     "telegram 0 DV002900125506000078001200010",
     "press 0 7 on",
     "cut 0 7",
@@ -24,6 +24,9 @@ const LAST: [&str; 8] = [
     "tick",
     "plan 12:00120001 / 7:0",
     "handover",
+    "mobile-call 9 3 00990007 00120001",
+    "mobile-cancel 9",
+    "telegram 0 DV003800125504190093800990007800120001",
 ];
 
 fn binary(text: &str) -> Vec<u8> {
@@ -71,7 +74,8 @@ pub fn lengths(program: &mut Program) -> Group {
         group.check(name, compare(&feed, Some(&due), program));
     };
     for length in [LONGEST - 1, LONGEST] {
-        for (kind, refusal) in [(1, 8), (2, 3), (4, 3), (6, 3), (7, 5), (8, 3), (9, 3)] {
+        let kinds = [1, 2, 4, 6, 7, 8, 9, 10, 11];
+        for (kind, refusal) in kinds.into_iter().zip([8, 3, 3, 3, 5, 3, 3, 3, 3]) {
             let name = format!("length {length}, kind {kind}");
             let lines = format!("E 5 {refusal} 0\nE 6 0 0\n");
             add(&name, &filled(kind, length), &lines);

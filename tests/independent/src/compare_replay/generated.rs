@@ -33,6 +33,7 @@ pub fn compare(options: &Options, program: &mut Program) -> (Group, Group) {
 fn output(feed: &[u8], coverage: &mut Coverage) -> Vec<u8> {
     let mut output = Vec::new();
     let mut player = Player::new();
+    coverage.start();
     for entry in replay::entries(feed) {
         let before = player.set.clone();
         let reply = player.play(entry, &mut output);

@@ -23,7 +23,7 @@ fn programs_that_print_nothing_right_fail() {
         assert!(!passed, "{program}");
         for group in [
             "feeds in no-such-directory: 0 of 1, FAILED",
-            "entries of odd lengths: 0 of 24, FAILED",
+            "entries of odd lengths: 0 of 28, FAILED",
             "output before more input: 0 of 3, FAILED",
             "generated feeds: 0 of 3, FAILED",
         ] {

@@ -172,7 +172,7 @@ fn one_move(
         }
     }
     for _ in 0..8 {
-        let entry = match scene.random.below(200) {
+        let entry = match scene.random.below(230) {
             0..=39 => scene.capture(),
             40..=59 => scene.release(),
             60..=109 => scene.press(),
@@ -183,11 +183,10 @@ fn one_move(
                 waiting.extend(std::iter::repeat_with(moves::tick).take(more));
                 Some(moves::tick())
             }
-            186..=197 => scripts::any(scene).map(|script| {
-                waiting.extend(script);
-                waiting.pop_front().unwrap_or_else(moves::tick)
-            }),
+            186..=197 => scripts::any(scene).map(|script| start(script, waiting)),
             198 if scene.random.below(2) == 0 => Some(moves::handover()),
+            199..=210 => scene.ring(),
+            211..=227 => scripts::rings::any(scene).map(|script| start(script, waiting)),
             _ => scene.bring_up(Desks(0)),
         };
         if entry.is_some() {
@@ -195,6 +194,12 @@ fn one_move(
         }
     }
     None
+}
+
+/// The first entry of a script; the others wait.
+fn start(script: Vec<Vec<u8>>, waiting: &mut VecDeque<Vec<u8>>) -> Vec<u8> {
+    waiting.extend(script);
+    waiting.pop_front().unwrap_or_else(moves::tick)
 }
 
 /// An entry whose length is above what is allowed, all of it there.

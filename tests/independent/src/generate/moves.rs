@@ -2,7 +2,7 @@
 
 use crate::random::Random;
 use crate::samples;
-use crate::set::channel::Channel;
+use crate::set::channel::{Answer, Channel, INDIVIDUAL};
 use crate::set::desks::{Desks, Phase};
 use crate::set::entry::Entry;
 use crate::set::plan::Lines;
@@ -71,7 +71,7 @@ impl Scene<'_> {
         self.telegram(desk, "550600", &body)
     }
 
-    fn telegram(&self, desk: u8, identifier: &str, body: &str) -> Vec<u8> {
+    pub fn telegram(&self, desk: u8, identifier: &str, body: &str) -> Vec<u8> {
         let code = format!("{:04}", self.lines.desks[usize::from(desk)].code);
         let telegram = samples::telegram(&code, identifier, body.as_bytes());
         Entry::Telegram {
@@ -121,6 +121,16 @@ impl Scene<'_> {
     }
 
     pub fn mobile_on(&mut self, channel: u8) -> Vec<u8> {
+        let (base, number) = self.base_and_number();
+        Entry::MobileOn {
+            channel,
+            base,
+            number: super::plans::digits(&format!("{number:08}")),
+        }
+        .bytes()
+    }
+
+    fn base_and_number(&mut self) -> (u8, u32) {
         let base = match self.random.below(8) {
             0 => 0,
             1 => 29,
@@ -133,13 +143,58 @@ impl Scene<'_> {
             2 => 99_999_999,
             _ => self.random.within(1, 99_999_999) as u32,
         };
-        let number = super::plans::digits(&format!("{number:08}"));
-        Entry::MobileOn {
-            channel,
-            base: base as u8,
-            number,
+        (base as u8, number)
+    }
+
+    /// What suits the channel: a call, or an answer or a cancel of its ring.
+    pub fn ring(&mut self) -> Option<Vec<u8>> {
+        let channel = self.channel();
+        let Some(ring) = channel.ring else {
+            let desk = self.listener(&channel).filter(|_| channel.is_idle())?;
+            return Some(self.mobile_call(channel.code, desk).0);
+        };
+        match self.random.below(6) {
+            0 => Some(mobile_cancel(channel.code)),
+            1..=2 => {
+                let right = self.right_answer(ring.desk, ring.number);
+                Some(self.answer(channel.code, &right))
+            }
+            _ => None,
         }
-        .bytes()
+    }
+
+    /// A call of the desk, and the mobile's number.
+    pub fn mobile_call(&mut self, channel: u8, desk: u8) -> (Vec<u8>, u32) {
+        let (base, number) = self.base_and_number();
+        let called = self.lines.desks[usize::from(desk)].number;
+        let entry = Entry::MobileCall {
+            channel,
+            base,
+            number: super::plans::digits(&format!("{number:08}")),
+            called: super::plans::digits(&format!("{called:08}")),
+        };
+        (entry.bytes(), number)
+    }
+
+    /// What the called desk has to say to a mobile of this number.
+    pub fn right_answer(&self, desk: u8, number: u32) -> Answer {
+        Answer {
+            desk,
+            call_type: INDIVIDUAL,
+            source: number,
+            destination: self.lines.desks[usize::from(desk)].number,
+        }
+    }
+
+    pub fn answer(&self, channel: u8, answer: &Answer) -> Vec<u8> {
+        let Answer {
+            desk,
+            call_type,
+            source,
+            destination,
+        } = *answer;
+        let body = format!("{channel:03}{call_type}8{source:08}8{destination:08}");
+        self.telegram(desk, "550419", &body)
     }
 
     /// How many ticks to run: mostly few, else about to where a timer ends.
@@ -165,15 +220,17 @@ fn ticks_matter(channel: &Channel) -> bool {
 
 /// Ticks until the timer that falls now has ended.
 fn next_end(channel: &Channel) -> usize {
-    match channel.quiet {
-        0 => channel.release.into(),
-        quiet => quiet.into(),
+    match (channel.ring, channel.quiet) {
+        (Some(ring), _) => ring.seconds.into(),
+        (None, 0) => channel.release.into(),
+        (None, quiet) => quiet.into(),
     }
 }
 
-/// Ticks until both have.
+/// Ticks until all have.
 fn last_end(channel: &Channel) -> usize {
-    usize::from(channel.quiet) + usize::from(channel.release)
+    let ring = channel.ring.map_or(0, |ring| ring.seconds);
+    usize::from(ring) + usize::from(channel.quiet) + usize::from(channel.release)
 }
 
 pub fn press(desk: u8, channel: u8, on: bool) -> Vec<u8> {
@@ -186,6 +243,10 @@ pub fn cut(desk: u8, channel: u8) -> Vec<u8> {
 
 pub fn mobile_off(channel: u8) -> Vec<u8> {
     Entry::MobileOff { channel }.bytes()
+}
+
+pub fn mobile_cancel(channel: u8) -> Vec<u8> {
+    Entry::MobileCancel { channel }.bytes()
 }
 
 pub fn tick() -> Vec<u8> {

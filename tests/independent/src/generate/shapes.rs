@@ -161,7 +161,7 @@ impl Load {
 
     /// Long entries are left out: they would only measure the reading.
     fn refused(&mut self) {
-        while let Some(entry) = self.build(|scene| Some(scene.near_miss())) {
+        while let Some(entry) = self.build(|scene| Some(scene.near_miss_without_ring())) {
             let refused = self.set.clone().step(&entry, &mut self.buffer).refusal > 1;
             if refused && entry.len() < 200 {
                 return self.add(&entry);

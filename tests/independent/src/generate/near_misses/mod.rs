@@ -2,6 +2,8 @@
 //! Their parts are right or wrong independently of each other, so that the
 //! order of the refusals shows.
 
+mod rings;
+
 use super::moves::Scene;
 use super::plans::{self, damaged, digits};
 use crate::samples;
@@ -11,6 +13,14 @@ use crate::set::entry::{self, Entry, LENGTH, LONGEST};
 impl Scene<'_> {
     /// Never one that is refused with 1, because that ends a feed.
     pub fn near_miss(&mut self) -> Vec<u8> {
+        match self.random.below(4) {
+            0 => self.near_miss_of_a_ring(),
+            _ => self.near_miss_without_ring(),
+        }
+    }
+
+    /// The loads to measure draw on these alone, so that they stay as they are.
+    pub fn near_miss_without_ring(&mut self) -> Vec<u8> {
         match self.random.below(100) {
             0..=31 => self.wild_telegram("550600"),
             32..=40 => {
@@ -22,7 +32,10 @@ impl Scene<'_> {
             61..=67 => self.wild_cut(),
             68..=75 => self.wild_mobile_on(),
             76..=80 => self.wild_mobile_off(),
-            81..=90 => self.changed_byte(),
+            81..=90 => {
+                let bytes = self.acceptable();
+                self.changed_byte(bytes)
+            }
             91..=95 => self.wrong_shape(),
             96..=97 => self.plan(),
             _ => self.long_entry(),
@@ -240,9 +253,8 @@ impl Scene<'_> {
         }
     }
 
-    /// An entry that is taken, with one byte changed behind its length.
-    fn changed_byte(&mut self) -> Vec<u8> {
-        let mut bytes = self.acceptable();
+    /// An entry with one byte changed behind its length.
+    fn changed_byte(&mut self, mut bytes: Vec<u8>) -> Vec<u8> {
         let place = self.random.within(LENGTH, bytes.len() - 1);
         bytes[place] = match self.random.below(4) {
             0 => self.random.byte(),

@@ -1,14 +1,18 @@
 //! What generated feeds bring about: how often each refusal came, and each
 //! situation that the rules treat on their own.
 
+mod rings;
+
 use crate::set::channel::Channel;
 use crate::set::entry::{self, Entry};
 use crate::set::plan::Lines;
 use crate::set::{Reply, Set};
 use std::collections::BTreeMap;
 
-/// The refusals that a replay can show; its buffer is never too small.
-const REFUSALS: usize = 16;
+/// The highest refusal, and the one that no replay can show: its buffer is
+/// never too small.
+const HIGHEST_REFUSAL: usize = 17;
+const SPACE: usize = 16;
 
 const SITUATIONS: [&str; 22] = [
     "capture of a free channel",
@@ -37,18 +41,30 @@ const SITUATIONS: [&str; 22] = [
 
 #[derive(Default)]
 pub struct Coverage {
-    refusals: [usize; REFUSALS],
+    refusals: [usize; HIGHEST_REFUSAL + 1],
     situations: BTreeMap<&'static str, usize>,
+    history: rings::History,
 }
 
 impl Coverage {
+    /// Begins another feed.
+    pub fn start(&mut self) {
+        self.history = rings::History::default();
+    }
+
     /// Counts one entry, with the set as it was before and is after it.
     pub fn count(&mut self, before: &Set, entry: &[u8], reply: Reply, after: &Set) {
         self.refusals[usize::from(reply.refusal)] += 1;
-        let (Ok(entry), Some(lines), 0) = (entry::read(entry), before.lines(), reply.refusal)
-        else {
-            return;
-        };
+        let Some(lines) = before.lines() else { return };
+        self.count_rings(lines, entry, reply.refusal, after);
+        if let (Ok(entry), 0) = (entry::read(entry), reply.refusal) {
+            self.count_accepted(lines, entry, after);
+            let tick = entry == Entry::Tick;
+            self.history.follow(lines, tick, after);
+        }
+    }
+
+    fn count_accepted(&mut self, lines: &Lines, entry: Entry, after: &Set) {
         match entry {
             Entry::Tick => self.count_tick(lines, after),
             Entry::Handover => self.count_handover(lines),
@@ -79,7 +95,8 @@ impl Coverage {
         let other = channel.holder.is_some_and(|holder| holder != desk);
         let own = channel.holder == Some(desk);
         if *order == b'1' {
-            self.saw(channel.holder.is_none(), "capture of a free channel");
+            let free = channel.holder.is_none() && channel.ring.is_none();
+            self.saw(free, "capture of a free channel");
             self.saw(own, "capture of a channel held by the same desk");
             self.saw(other, "capture of a channel held by another");
             let arrival = channel.holder.is_none() && channel.arrival.is_some();
@@ -130,7 +147,8 @@ impl Coverage {
         let after = after.lines().map_or(&[][..], |lines| &lines.channels);
         let mut ends = 0;
         for (before, after) in lines.channels.iter().zip(after) {
-            let ended = before.call.is_some() && after.call.is_none();
+            let quiet = before.call.is_some() && before.ring.is_none();
+            let ended = quiet && after.call.is_none();
             self.saw(ended, "call ended by the quiet timer");
             let gone = before.holder.is_some() && after.holder.is_none();
             self.saw(gone, "holder gone by the release timer");
@@ -155,8 +173,9 @@ impl Coverage {
     /// Each refusal and each situation with its count.
     pub fn counts(&self) -> Vec<(String, usize)> {
         let refusals = self.refusals.iter().enumerate();
+        let refusals = refusals.filter(|&(number, _)| number != SPACE);
         let refusals = refusals.map(|(number, &count)| (format!("refusal {number}"), count));
-        let situations = SITUATIONS.iter().map(|&name| {
+        let situations = SITUATIONS.iter().chain(&rings::SITUATIONS).map(|&name| {
             let count = self.situations.get(name).copied().unwrap_or(0);
             (name.to_string(), count)
         });
@@ -168,4 +187,31 @@ impl Coverage {
 fn find(lines: &Lines, code: u8) -> &Channel {
     let found = lines.channels.iter().find(|channel| channel.code == code);
     found.expect("accepted entries are about channels of the plan")
+}
+
+#[cfg(test)]
+mod tests {
+    use super::*;
+    use crate::generate;
+    use crate::replay::{entries, Player};
+
+    /// Far fewer feeds than a comparison runs, so no count can be small there.
+    #[test]
+    fn feeds_bring_about_everything() {
+        let mut coverage = Coverage::default();
+        for seed in 0..300 {
+            coverage.start();
+            let mut player = Player::new();
+            for entry in entries(&generate::feed(seed, 500)) {
+                let before = player.set.clone();
+                let reply = player.play(entry, &mut std::io::sink()).unwrap();
+                coverage.count(&before, entry, reply, &player.set);
+            }
+        }
+        for (name, count) in coverage.counts() {
+            assert!(count >= 10, "{name} came {count} times");
+        }
+        let listed = |name| SITUATIONS.contains(name) || rings::SITUATIONS.contains(name);
+        assert!(coverage.situations.keys().all(listed));
+    }
 }

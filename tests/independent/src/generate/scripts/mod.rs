@@ -1,28 +1,13 @@
 //! Short runs of entries that lead a channel through the rules that random
 //! moves seldom reach.
 
+pub mod rings;
+
 use super::moves::{self, Scene, CAPTURE, RELEASE};
 
 /// One of the scripts, on a channel that a running desk may hold.
 pub fn any(scene: &mut Scene) -> Option<Vec<Vec<u8>>> {
-    let channel = scene.channel();
-    let first = match channel.holder {
-        Some(holder) => holder,
-        None => scene.listener(&channel)?,
-    };
-    let second = scene.listener(&channel)?;
-    let mut script = Script {
-        entries: Vec::new(),
-        scene,
-        channel: channel.code,
-    };
-    if channel.arrival.is_some() {
-        script.mobile_off();
-    }
-    script.capture(first);
-    if channel.pressed {
-        script.press(first, false);
-    }
+    let (mut script, first, second) = Script::begin(scene)?;
     match script.scene.random.below(8) {
         0 | 1 => script.mobile_under_old_holder(first, second),
         2 => script.unheld_mobile(first, second),
@@ -39,6 +24,34 @@ struct Script<'a, 'b> {
     entries: Vec<Vec<u8>>,
     scene: &'a mut Scene<'b>,
     channel: u8,
+}
+
+impl<'a, 'b> Script<'a, 'b> {
+    /// On a channel that the first of the two desks holds in the end.
+    fn begin(scene: &'a mut Scene<'b>) -> Option<(Self, u8, u8)> {
+        let channel = scene.channel();
+        let first = match channel.holder {
+            Some(holder) => holder,
+            None => scene.listener(&channel)?,
+        };
+        let second = scene.listener(&channel)?;
+        let mut script = Script {
+            entries: Vec::new(),
+            scene,
+            channel: channel.code,
+        };
+        if channel.ring.is_some() {
+            script.entries.push(moves::mobile_cancel(channel.code));
+        }
+        if channel.arrival.is_some() {
+            script.mobile_off();
+        }
+        script.capture(first);
+        if channel.pressed {
+            script.press(first, false);
+        }
+        Some((script, first, second))
+    }
 }
 
 impl Script<'_, '_> {
