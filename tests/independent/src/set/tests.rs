@@ -124,6 +124,9 @@ fn check_entry(set: &mut Set, entry: &[u8]) -> bool {
     let before = set.clone();
     let mut buffer = vec![0xaa; BUFFER];
     let reply = set.step(entry, &mut buffer);
+    for channel in set.lines().map_or(&[][..], |lines| &lines.channels) {
+        check_ring(channel);
+    }
     let (written, rest) = buffer.split_at(reply.count);
     assert!(rest.iter().all(|&byte| byte == 0xaa));
     if reply.refusal != 0 {
@@ -145,6 +148,22 @@ fn check_entry(set: &mut Set, entry: &[u8]) -> bool {
     assert_eq!(other, before);
     assert!(too_short.iter().all(|&byte| byte == 0xaa));
     true
+}
+
+/// A ring has its call, told to the called desk alone, and nothing else.
+fn check_ring(channel: &Channel) {
+    let Some(ring) = channel.ring else { return };
+    assert!((1..=15).contains(&ring.seconds));
+    let call = channel.call.expect("a ring has a call");
+    assert_eq!((call.call_type, call.source), (3, ring.number));
+    assert_eq!(call.recipients, Desks::only(ring.desk));
+    assert!(channel.entitled.contains(ring.desk));
+    let idle = Channel {
+        call: None,
+        ring: None,
+        ..*channel
+    };
+    assert_eq!(idle, Channel::new(channel.code, channel.entitled));
 }
 
 const TWO_RUNNING: &str = "

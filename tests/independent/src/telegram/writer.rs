@@ -101,6 +101,14 @@ fn write_body(message: &Message, digits: &mut Digits) {
             digits.counted_number(number);
             digits.digit(last);
         }
+        Message::RingNotice { .. } | Message::RingAnswer { .. } | Message::CallResult { .. } =>
+            write_ring(message, digits),
+    }
+}
+
+#[rustfmt::skip] // As above.
+fn write_ring(message: &Message, digits: &mut Digits) {
+    match *message {
         Message::RingNotice { channel, call_type, source, destination }
         | Message::RingAnswer { channel, call_type, source, destination } => {
             digits.channel(channel);
@@ -114,6 +122,7 @@ fn write_body(message: &Message, digits: &mut Digits) {
             digits.digit(result);
             digits.counted_number(destination);
         }
+        _ => {}
     }
 }
 
