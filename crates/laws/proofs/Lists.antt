@@ -4,9 +4,9 @@ use Prim.Native.Nat.{ℕ, zero, suc, _+_, _-_, _<_}
 use mathlib.Core.List.{List, [], _∷_, _++_, map}
 use mathlib.Core.Path.{_≡_, refl, sym, ap, _∙_}
 use native.Mathlib.Omega.{arith}
-use native.Mathlib.Nat.{add-zero, sub-zero, zero-sub, suc-sub-suc}
+use native.Mathlib.Nat.{zero-add, add-zero, suc-add, sub-zero, zero-sub, suc-sub-suc}
 use lib.ListN.{length, length-take, length-drop, getD, take, drop, set, replicate}
-use lib.Seq.{take-all, getD-take, sets}
+use lib.Seq.{take-all, take-nil, getD-take, sets}
 
 module _ {A : Type 0} where
   pub none-long : (xs : List A) → length xs ≡ 0 → xs ≡ []
@@ -37,6 +37,12 @@ module _ {A : Type 0} where
   -- the part from a place to the end
   pub part-to-end : (xs : List A) (a : ℕ) → take (length xs - a) (drop a xs) ≡ drop a xs
   part-to-end xs a = take-all (length xs - a) (drop a xs) (simp length-drop (omega arith))
+
+  -- a part is what the front that ends with it leaves behind its start
+  pub part-front : (a n : ℕ) (xs : List A) → take n (drop a xs) ≡ drop a (take (a + n) xs)
+  part-front zero n xs = rw zero-add
+  part-front (suc a) n [] = rw suc-add (take-nil n)
+  part-front (suc a) n (x ∷ xs) = rw suc-add (part-front a n xs)
 
   pub drop-replicate : (n k : ℕ) (z : A) → drop k (replicate n z) ≡ replicate (n - k) z
   drop-replicate n zero z = rw sub-zero

@@ -23,6 +23,11 @@ pub either : {A : Type 0} (P : A → Type 0) (t : Bool) (a b : A) → P a → P 
 either P true a b p q = p
 either P false a b p q = q
 
+-- the same, where each branch goes by what the test says
+pub by-branch : {A : Type 0} (P : A → Type 0) (t : Bool) (a b : A) → (t ≡ true → P a) → (t ≡ false → P b) → P (cond t a b)
+by-branch P true a b p q = p refl
+by-branch P false a b p q = q refl
+
 -- a function of a choice
 pub cond-of : {A B : Type 0} (f : A → B) (t : Bool) (a b : A) → f (cond t a b) ≡ cond t (f a) (f b)
 cond-of f true a b = refl

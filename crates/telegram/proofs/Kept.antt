@@ -5,3 +5,4 @@ pub use Rattle.telegram.proofs.SizeLaws.{length-telegram, size-most}
 pub use Rattle.telegram.proofs.HeaderLaws.{header-long}
 pub use Rattle.telegram.proofs.WriterNumbers.{writer-numbers}
 pub use Rattle.telegram.proofs.ReaderNumbers.{reader-numbers}
+pub use Rattle.telegram.proofs.OneField.{source-apart}

@@ -16,10 +16,10 @@ use Rattle.numerals.specs.Digits.{digitsOf, allDigits, valueOf}
 use Rattle.fields.specs.Fields.{Field, plain, length4, code, len, inRange as fits, bodyOk, valuesIn, allIn, bytesOf}
 use Rattle.numerals.proofs.Kept.{length-digits, digits-digits, value-digits, digits-value}
 use Rattle.fields.proofs.Kept.{read-written, written-read, length-bytes, same-count}
-use Rattle.telegram.specs.Telegram.{Row, nth, timeNotice, operationAnswer, timeRequest, baseArrival, operationRequest, call, callerNotice, captureRequest, captureReply, captureState, table, readRow, readIn, heading, headerOk, readIdentified, readTelegram, rowOf, valuesOf, sizeOf, headed, telegramOf, inRange}
+use Rattle.telegram.specs.Telegram.{Row, nth, timeNotice, ringBody, ringAnswer, operationAnswer, timeRequest, baseArrival, ringNotice, answerReply, operationRequest, call, callerNotice, callResult, captureRequest, captureReply, captureState, table, readRow, readIn, heading, headerOk, readIdentified, readTelegram, rowOf, valuesOf, sizeOf, headed, telegramOf, inRange}
 use Rattle.telegram.specs.Promises.{ReadsBack, WrittenForm, OneForm}
 use Rattle.telegram.specs.declared.message.Message.{Message}
-use Rattle.telegram.specs.declared.message.Message.the-variants.{TimeNotice, OperationAnswer, TimeRequest, BaseArrival, OperationRequest, Call, CallerNotice, CaptureRequest, CaptureReply, CaptureState}
+use Rattle.telegram.specs.declared.message.Message.the-variants.{TimeNotice, RingAnswer, OperationAnswer, TimeRequest, BaseArrival, RingNotice, AnswerReply, OperationRequest, Call, CallerNotice, CallResult, CaptureRequest, CaptureReply, CaptureState}
 use Rattle.telegram.specs.declared.message.Reading.the-variants.{Telegram, Refused}
 use Rattle.telegram.proofs.SizeLaws.{size-most}
 use Rattle.telegram.proofs.HeaderLaws.{header-tests, header-long}
@@ -29,12 +29,16 @@ use Rattle.telegram.proofs.HeaderLaws.{header-tests, header-long}
 -- Each message's numbers make that message again, and the table finds its row.
 back : (c : ℕ) (m : Message) → (rowOf m .make (valuesOf m) ≡ m) × ((b : List ℕ) → readIn table c (rowOf m .id) b ≡ readRow (rowOf m) c b)
 back c (TimeNotice m) = (refl, λ b. refl)
+back c (RingAnswer m) = (refl, λ b. refl)
 back c (OperationAnswer m) = (refl, λ b. refl)
 back c TimeRequest = (refl, λ b. refl)
 back c (BaseArrival m) = (refl, λ b. refl)
+back c (RingNotice m) = (refl, λ b. refl)
+back c (AnswerReply m) = (refl, λ b. refl)
 back c OperationRequest = (refl, λ b. refl)
 back c (Call m) = (refl, λ b. refl)
 back c (CallerNotice m) = (refl, λ b. refl)
+back c (CallResult m) = (refl, λ b. refl)
 back c (CaptureRequest m) = (refl, λ b. refl)
 back c (CaptureReply m) = (refl, λ b. refl)
 back c (CaptureState m) = (refl, λ b. refl)
@@ -42,12 +46,16 @@ back c (CaptureState m) = (refl, λ b. refl)
 -- each identifier has six digits
 six-digits : (m : Message) → rowOf m .id < 10 ^ 6
 six-digits (TimeNotice m) = lit< tt
+six-digits (RingAnswer m) = lit< tt
 six-digits (OperationAnswer m) = lit< tt
 six-digits TimeRequest = lit< tt
 six-digits (BaseArrival m) = lit< tt
+six-digits (RingNotice m) = lit< tt
+six-digits (AnswerReply m) = lit< tt
 six-digits OperationRequest = lit< tt
 six-digits (Call m) = lit< tt
 six-digits (CallerNotice m) = lit< tt
+six-digits (CallResult m) = lit< tt
 six-digits (CaptureRequest m) = lit< tt
 six-digits (CaptureReply m) = lit< tt
 six-digits (CaptureState m) = lit< tt
@@ -205,6 +213,17 @@ time-notice : RowLaw timeNotice
 unfolding tab
 time-notice vs h = (refl, spread (timeNotice .body) vs h)
 
+-- the numbers of a ring notice or a ring answer
+ring-values : (vs : List ℕ) → allIn ringBody 0 0 vs ≡ true → nth vs 0 ∷ nth vs 1 ∷ 8 ∷ nth vs 3 ∷ 8 ∷ nth vs 5 ∷ [] ≡ vs
+unfolding tab
+ring-values vs h =
+    let a : nth vs 2 ≡ 8 = eight ringBody 0 0 vs 2 h refl in
+    let b : nth vs 4 ≡ 8 = eight ringBody 0 0 vs 4 h refl in
+    rw (a, b) at (spread ringBody vs h)
+
+ring-answer : RowLaw ringAnswer
+ring-answer vs h = (refl, ring-values vs h)
+
 operation-answer : RowLaw operationAnswer
 unfolding tab
 operation-answer vs h = (refl, spread (operationAnswer .body) vs h)
@@ -216,6 +235,13 @@ time-request vs h = (refl, spread (timeRequest .body) vs h)
 base-arrival : RowLaw baseArrival
 unfolding tab
 base-arrival vs h = (refl, spread (baseArrival .body) vs h)
+
+ring-notice : RowLaw ringNotice
+ring-notice vs h = (refl, ring-values vs h)
+
+answer-reply : RowLaw answerReply
+unfolding tab
+answer-reply vs h = (refl, spread (answerReply .body) vs h)
 
 operation-request : RowLaw operationRequest
 unfolding tab
@@ -231,6 +257,12 @@ call-start-end vs h =
 caller-notice : RowLaw callerNotice
 unfolding tab
 caller-notice vs h = (refl, spread (callerNotice .body) vs h)
+
+call-result : RowLaw callResult
+unfolding tab
+call-result vs h =
+    let a : nth vs 3 ≡ 8 = eight (callResult .body) 0 0 vs 3 h refl in
+    (refl, rw a at (spread (callResult .body) vs h))
 
 capture-request : RowLaw captureRequest
 unfolding tab
@@ -250,7 +282,7 @@ capture-state vs h =
 
 laws : Each RowLaw table
 laws =
-    (time-notice, (operation-answer, (time-request, (base-arrival, (operation-request, (call-start-end, (caller-notice, (capture-request, (capture-reply, (capture-state, tt))))))))))
+    (time-notice, (ring-answer, (operation-answer, (time-request, (base-arrival, (ring-notice, (answer-reply, (operation-request, (call-start-end, (caller-notice, (call-result, (capture-request, (capture-reply, (capture-state, tt))))))))))))))
 
 pub written-form : WrittenForm
 unfolding readTelegram telegramOf

@@ -8,7 +8,7 @@ use Rattle.numerals.specs.Digits.{digitsOf, allDigits, valueOf}
 use Rattle.fields.specs.Fields.{Field, length4, code, channel, base, callType, direction, reason, len, number, flag, year, month, day, hour, minute, second, bodyOk, valuesIn, allIn, bytesOf, bodySize}
 use Rattle.telegram.specs.declared.message.Number.{Number}
 use Rattle.telegram.specs.declared.message.Message.{Message}
-use Rattle.telegram.specs.declared.message.Message.the-variants.{TimeNotice, OperationAnswer, TimeRequest, BaseArrival, OperationRequest, Call, CallerNotice, CaptureRequest, CaptureReply, CaptureState}
+use Rattle.telegram.specs.declared.message.Message.the-variants.{TimeNotice, RingAnswer, OperationAnswer, TimeRequest, BaseArrival, RingNotice, AnswerReply, OperationRequest, Call, CallerNotice, CallResult, CaptureRequest, CaptureReply, CaptureState}
 use Rattle.telegram.specs.declared.message.Reading.{Reading}
 use Rattle.telegram.specs.declared.message.Reading.the-variants.{Telegram, Refused}
 use Rattle.telegram.specs.declared.message.Written.{Written}
@@ -37,6 +37,15 @@ abbrev pub timeNotice : Row
 timeNotice = row 550411 (year ∷ month ∷ day ∷ hour ∷ minute ∷ second ∷ [])
     (λ v. TimeNotice (record { year = nth v 0; month = nth v 1; day = nth v 2; hour = nth v 3; minute = nth v 4; second = nth v 5 }))
 
+-- what a ring notice and the answer to it say, byte for byte the same
+abbrev pub ringBody : List Field
+ringBody = channel ∷ callType ∷ len ∷ number ∷ len ∷ number ∷ []
+
+-- "550419 ring answer: CH, type, len, source, len, destination" (02 §1, filled as document 000 has it)
+abbrev pub ringAnswer : Row
+ringAnswer = row 550419 ringBody
+    (λ v. RingAnswer (record { channel = nth v 0; kind = nth v 1; source = num (nth v 3); destination = num (nth v 5) }))
+
 -- "550421 operation answer: system, state"
 abbrev pub operationAnswer : Row
 operationAnswer = row 550421 (flag ∷ flag ∷ []) (λ v. OperationAnswer (record { system = nth v 0; state = nth v 1 }))
@@ -49,6 +58,15 @@ timeRequest = row 550461 [] (λ v. TimeRequest)
 abbrev pub baseArrival : Row
 baseArrival = row 550464 (channel ∷ base ∷ callType ∷ number ∷ flag ∷ [])
     (λ v. BaseArrival (record { channel = nth v 0; base = nth v 1; kind = nth v 2; number = num (nth v 3); order = nth v 4 }))
+
+-- "550468 ring notice: CH, type, len, source, len, destination" (02 §1, filled as document 000 has it)
+abbrev pub ringNotice : Row
+ringNotice = row 550468 ringBody
+    (λ v. RingNotice (record { channel = nth v 0; kind = nth v 1; source = num (nth v 3); destination = num (nth v 5) }))
+
+-- "550469 answer reply: CH, result" (02 §1, filled as document 000 has it)
+abbrev pub answerReply : Row
+answerReply = row 550469 (channel ∷ flag ∷ []) (λ v. AnswerReply (record { channel = nth v 0; result = nth v 1 }))
 
 -- "550471 operation request: none"
 abbrev pub operationRequest : Row
@@ -63,6 +81,11 @@ call = row 550473 (channel ∷ base ∷ callType ∷ flag ∷ direction ∷ flag
 abbrev pub callerNotice : Row
 callerNotice = row 550477 (channel ∷ base ∷ callType ∷ direction ∷ number ∷ flag ∷ [])
     (λ v. CallerNotice (record { channel = nth v 0; base = nth v 1; kind = nth v 2; direction = nth v 3; number = num (nth v 4); order = nth v 5 }))
+
+-- "550480 call result: CH, type, result, len, destination" (02 §1, filled as document 000 has it)
+abbrev pub callResult : Row
+callResult = row 550480 (channel ∷ callType ∷ flag ∷ len ∷ number ∷ [])
+    (λ v. CallResult (record { channel = nth v 0; kind = nth v 1; result = nth v 2; destination = num (nth v 4) }))
 
 -- "550600 capture request: CH, len, number, order"
 abbrev pub captureRequest : Row
@@ -80,8 +103,8 @@ captureState = row 550651 (channel ∷ len ∷ number ∷ flag ∷ [])
 
 abbrev pub table : List Row
 table =
-    timeNotice ∷ operationAnswer ∷ timeRequest ∷ baseArrival ∷ operationRequest ∷ call ∷ callerNotice ∷ captureRequest ∷ captureReply
-    ∷ captureState ∷ []
+    timeNotice ∷ ringAnswer ∷ operationAnswer ∷ timeRequest ∷ baseArrival ∷ ringNotice ∷ answerReply ∷ operationRequest ∷ call
+    ∷ callerNotice ∷ callResult ∷ captureRequest ∷ captureReply ∷ captureState ∷ []
 
 -- ---- reading
 
@@ -120,25 +143,33 @@ readTelegram s = cond (headerOk s) (readIdentified (nth (heading s) 1) s) (Refus
 -- a message's row and its body's numbers
 abbrev pub rowOf : Message → Row
 rowOf (TimeNotice m) = timeNotice
+rowOf (RingAnswer m) = ringAnswer
 rowOf (OperationAnswer m) = operationAnswer
 rowOf TimeRequest = timeRequest
 rowOf (BaseArrival m) = baseArrival
+rowOf (RingNotice m) = ringNotice
+rowOf (AnswerReply m) = answerReply
 rowOf OperationRequest = operationRequest
 rowOf (Call m) = call
 rowOf (CallerNotice m) = callerNotice
+rowOf (CallResult m) = callResult
 rowOf (CaptureRequest m) = captureRequest
 rowOf (CaptureReply m) = captureReply
 rowOf (CaptureState m) = captureState
 
 abbrev pub valuesOf : Message → List ℕ
 valuesOf (TimeNotice m) = m .year ∷ m .month ∷ m .day ∷ m .hour ∷ m .minute ∷ m .second ∷ []
+valuesOf (RingAnswer m) = m .channel ∷ m .kind ∷ 8 ∷ m .source .digits ∷ 8 ∷ m .destination .digits ∷ []
 valuesOf (OperationAnswer m) = m .system ∷ m .state ∷ []
 valuesOf TimeRequest = []
 valuesOf (BaseArrival m) = m .channel ∷ m .base ∷ m .kind ∷ m .number .digits ∷ m .order ∷ []
+valuesOf (RingNotice m) = m .channel ∷ m .kind ∷ 8 ∷ m .source .digits ∷ 8 ∷ m .destination .digits ∷ []
+valuesOf (AnswerReply m) = m .channel ∷ m .result ∷ []
 valuesOf OperationRequest = []
 valuesOf (Call m) =
     m .channel ∷ m .base ∷ m .kind ∷ m .media ∷ m .direction ∷ m .start ∷ m .reason ∷ 8 ∷ m .source .digits ∷ 8 ∷ m .destination .digits ∷ []
 valuesOf (CallerNotice m) = m .channel ∷ m .base ∷ m .kind ∷ m .direction ∷ m .number .digits ∷ m .order ∷ []
+valuesOf (CallResult m) = m .channel ∷ m .kind ∷ m .result ∷ 8 ∷ m .destination .digits ∷ []
 valuesOf (CaptureRequest m) = m .channel ∷ 8 ∷ m .number .digits ∷ m .order ∷ []
 valuesOf (CaptureReply m) = m .channel ∷ m .result ∷ []
 valuesOf (CaptureState m) = m .channel ∷ 8 ∷ m .number .digits ∷ m .state ∷ []

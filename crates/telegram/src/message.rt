@@ -30,6 +30,13 @@ pub struct TimeNotice {
     pub second: u32,
 }
 
+pub struct RingAnswer {
+    pub channel: u32,
+    pub kind: u32,
+    pub source: Number,
+    pub destination: Number,
+}
+
 pub struct OperationAnswer {
     pub system: u32,
     pub state: u32,
@@ -41,6 +48,18 @@ pub struct BaseArrival {
     pub kind: u32,
     pub number: Number,
     pub order: u32,
+}
+
+pub struct RingNotice {
+    pub channel: u32,
+    pub kind: u32,
+    pub source: Number,
+    pub destination: Number,
+}
+
+pub struct AnswerReply {
+    pub channel: u32,
+    pub result: u32,
 }
 
 pub struct Call {
@@ -64,6 +83,13 @@ pub struct CallerNotice {
     pub order: u32,
 }
 
+pub struct CallResult {
+    pub channel: u32,
+    pub kind: u32,
+    pub result: u32,
+    pub destination: Number,
+}
+
 pub struct CaptureRequest {
     pub channel: u32,
     pub number: Number,
@@ -84,12 +110,16 @@ pub struct CaptureState {
 // A telegram without its header, in the order of the identifiers. `kind` is a call's type.
 pub enum Message {
     TimeNotice(TimeNotice),
+    RingAnswer(RingAnswer),
     OperationAnswer(OperationAnswer),
     TimeRequest,
     BaseArrival(BaseArrival),
+    RingNotice(RingNotice),
+    AnswerReply(AnswerReply),
     OperationRequest,
     Call(Call),
     CallerNotice(CallerNotice),
+    CallResult(CallResult),
     CaptureRequest(CaptureRequest),
     CaptureReply(CaptureReply),
     CaptureState(CaptureState),

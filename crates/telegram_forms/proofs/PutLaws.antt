@@ -2,7 +2,7 @@
 -- Assumes nothing.
 use Prim.Native.Nat.{ℕ, zero, suc, _+_, _/_, _≤_, _<_}
 use mathlib.Core.List.{List, [], _∷_, _++_}
-use mathlib.Core.Path.{_≡_, refl, ap, _∙_}
+use mathlib.Core.Path.{_≡_, refl, sym, ap, _∙_}
 use native.Mathlib.Nat.{zero-add}
 use native.Mathlib.Omega.{arith}
 use Rattle.laws.proofs.Lists.{sets-append}
@@ -14,10 +14,10 @@ use Rattle.numerals.specs.Promises.{shifted}
 use Rattle.numerals.proofs.Kept.{length-digits, digits-none, digits-suc, digits-split}
 use Rattle.telegram.specs.Telegram.{rowOf, valuesOf, sizeOf, headed, telegramOf}
 use Rattle.telegram.specs.declared.message.Message.{Message}
-use Rattle.telegram.specs.declared.message.Message.the-variants.{CallerNotice as Notice, CaptureState as State}
+use Rattle.telegram.specs.declared.message.Message.the-variants.{RingNotice as Rung, CallerNotice as Notice, CallResult as Result, CaptureState as State}
 use Rattle.telegram.proofs.Kept.{size-most, length-telegram}
 use Rattle.telegram_forms.specs.Forms.{padded}
-use Rattle.telegram_forms.specs.Promises.{PutDigitByDigit, PutInTwo, PutCaller, PutHolder, Padded46, FormPut, FormOver}
+use Rattle.telegram_forms.specs.Promises.{PutDigitByDigit, PutInTwo, PutCaller, PutHolder, PutRung, PutCalled, Padded46, FormPut, FormOver}
 
 -- ---- digits
 
@@ -67,6 +67,11 @@ unfolding telegramOf bytesOf padded
 put-form m =
     let start = headed-fields (replicate 46 0) (sizeOf m) 0 (rowOf m .id) in
     rw (← start [] [], start) refl
+
+-- the same, where the body's fields are put at once
+pub put-body : (m : Message)
+    → sets (padded (headed (sizeOf m) 0 (rowOf m .id) [])) 16 (bytesOf (rowOf m .body) (valuesOf m)) ≡ padded (telegramOf 0 m)
+put-body m = sym (put-fields (rowOf m .body) (valuesOf m) _ 16) ∙ put-form m
 
 -- ---- other numbers put into a telegram
 
@@ -128,12 +133,18 @@ put-value i c c′ v m m′ h ef ev z =
 put-code : (z : List ℕ) (c : ℕ) (m : Message) → sets (sets z 0 (telegramOf 0 m)) 6 (digitsOf 4 c) ≡ sets z 0 (telegramOf c m)
 put-code z c m = put-value 1 0 c c m m (omega arith) refl refl z
 
--- another number in a caller notice, and in a capture state
+-- another number in a caller notice, a capture state, a ring notice and a call result
 pub put-caller : PutCaller
 put-caller z c m n = put-value 7 c c (n .digits) (Notice m) _ (omega arith) refl refl z
 
 pub put-holder : PutHolder
 put-holder z c m n = put-value 5 c c (n .digits) (State m) _ (omega arith) refl refl z
+
+pub put-rung : PutRung
+put-rung z c m n = put-value 8 c c (n .digits) (Rung m) _ (omega arith) refl refl z
+
+pub put-called : PutCalled
+put-called z c m n = put-value 7 c c (n .digits) (Result m) _ (omega arith) refl refl z
 
 -- ---- a telegram in a buffer
 

@@ -11,8 +11,10 @@ use Rattle.telegram.specs.Telegram.{sizeOf, telegramOf, over}
 use Rattle.telegram.specs.declared.message.Number.{Number}
 use Rattle.telegram.specs.declared.message.CallerNotice.{CallerNotice}
 use Rattle.telegram.specs.declared.message.CaptureState.{CaptureState}
+use Rattle.telegram.specs.declared.message.RingNotice.{RingNotice}
+use Rattle.telegram.specs.declared.message.CallResult.{CallResult}
 use Rattle.telegram.specs.declared.message.Message.{Message}
-use Rattle.telegram.specs.declared.message.Message.the-variants.{CallerNotice as Notice, CaptureState as State}
+use Rattle.telegram.specs.declared.message.Message.the-variants.{RingNotice as Rung, CallerNotice as Notice, CallResult as Result, CaptureState as State}
 use Rattle.telegram_forms.specs.Forms.{padded}
 
 -- the digits of v, as the code stores them: each behind those before it
@@ -31,7 +33,8 @@ PutInTwo =
     (a b : ℕ) (t : List ℕ) (at v : ℕ)
     → sets (sets t at (digitsOf a (shifted b v))) (at + a) (digitsOf b v) ≡ sets t at (digitsOf (a + b) v)
 
--- Another number can be put into a caller notice (`put-caller`), and into a capture state (`put-holder`).
+-- Another number can be put into a caller notice (`put-caller`), into a capture state (`put-holder`), and for the destination into a
+-- ring notice (`put-rung`) and a call result (`put-called`).
 abbrev pub PutCaller : Type 0
 PutCaller =
     (z : List ℕ) (c : ℕ) (m : CallerNotice) (n : Number)
@@ -43,6 +46,18 @@ PutHolder =
     (z : List ℕ) (c : ℕ) (m : CaptureState) (n : Number)
     → sets (sets z 0 (telegramOf c (State m))) 20 (digitsOf 8 (n .digits))
     ≡ sets z 0 (telegramOf c (State (record { channel = m .channel; number = n; state = m .state })))
+
+abbrev pub PutRung : Type 0
+PutRung =
+    (z : List ℕ) (c : ℕ) (m : RingNotice) (n : Number)
+    → sets (sets z 0 (telegramOf c (Rung m))) 30 (digitsOf 8 (n .digits))
+    ≡ sets z 0 (telegramOf c (Rung (record { channel = m .channel; kind = m .kind; source = m .source; destination = n })))
+
+abbrev pub PutCalled : Type 0
+PutCalled =
+    (z : List ℕ) (c : ℕ) (m : CallResult) (n : Number)
+    → sets (sets z 0 (telegramOf c (Result m))) 22 (digitsOf 8 (n .digits))
+    ≡ sets z 0 (telegramOf c (Result (record { channel = m .channel; kind = m .kind; result = m .result; destination = n })))
 
 -- An array that holds a telegram has 46 bytes (`length-padded`).
 abbrev pub Padded46 : Type 0

@@ -5,8 +5,10 @@ use super::digits::header;
 use super::digits::one;
 use super::digits::three;
 use super::digits::two;
+use telegram::AnswerReply;
 use telegram::BaseArrival;
 use telegram::Call;
+use telegram::CallResult;
 use telegram::CallerNotice;
 use telegram::CaptureReply;
 use telegram::CaptureRequest;
@@ -14,10 +16,35 @@ use telegram::CaptureState;
 use telegram::Message;
 use telegram::Number;
 use telegram::OperationAnswer;
+use telegram::RingAnswer;
+use telegram::RingNotice;
 use telegram::TimeNotice;
+ghost use mathlib.Core.List.{[], _∷_};
 ghost use mathlib.Core.Path.{_≡_};
-ghost use Rattle.telegram.specs.Telegram.{telegramOf};
+ghost use lib.Seq.{sets};
+ghost use Rattle.fields.specs.Fields.{bytesOf};
+ghost use Rattle.telegram.specs.Telegram.{ringBody, captureReply, telegramOf};
 ghost use Rattle.telegram_forms.specs.Forms.{padded};
+
+// The body of a ring notice and of a ring answer, put behind a header.
+fn ring_body(t: [u8; 46], channel: u32, kind: u32, source: Number, destination: Number) -> [u8; 46]
+    ensures { λ r. ⌜ r ≡ sets t 16 (bytesOf ringBody (channel ∷ kind ∷ 8 ∷ source .digits ∷ 8 ∷ destination .digits ∷ [])) ⌝ }
+{
+    let t = three(t, 16, channel);
+    let t = one(t, 19, kind);
+    let t = one(t, 20, Number::LEN);
+    let t = eight(t, 21, source.digits);
+    let t = one(t, 29, Number::LEN);
+    eight(t, 30, destination.digits)
+}
+
+// The body of an answer reply and of a capture reply, put behind a header.
+fn reply_body(t: [u8; 46], channel: u32, result: u32) -> [u8; 46]
+    ensures { λ r. ⌜ r ≡ sets t 16 (bytesOf (captureReply .body) (channel ∷ result ∷ [])) ⌝ }
+{
+    let t = three(t, 16, channel);
+    one(t, 19, result)
+}
 
 // Each of these gives a message of one kind as a telegram under code 0, and zeros behind it.
 // A number that is too large for its field loses its highest digits: whoever calls this knows the numbers.
@@ -31,6 +58,13 @@ pub fn time_notice_form(m: TimeNotice) -> [u8; 46]
     let t = two(t, 24, m.hour);
     let t = two(t, 26, m.minute);
     two(t, 28, m.second)
+}
+
+pub fn ring_answer_form(m: RingAnswer) -> [u8; 46]
+    ensures { λ r. ⌜ r ≡ padded (telegramOf 0 (Message.RingAnswer m)) ⌝ }
+{
+    let t = header(38, 550419);
+    ring_body(t, m.channel, m.kind, m.source, m.destination)
 }
 
 pub fn operation_answer_form(m: OperationAnswer) -> [u8; 46]
@@ -56,6 +90,20 @@ pub fn base_arrival_form(m: BaseArrival) -> [u8; 46]
     let t = one(t, 22, m.kind);
     let t = eight(t, 23, m.number.digits);
     one(t, 31, m.order)
+}
+
+pub fn ring_notice_form(m: RingNotice) -> [u8; 46]
+    ensures { λ r. ⌜ r ≡ padded (telegramOf 0 (Message.RingNotice m)) ⌝ }
+{
+    let t = header(38, 550468);
+    ring_body(t, m.channel, m.kind, m.source, m.destination)
+}
+
+pub fn answer_reply_form(m: AnswerReply) -> [u8; 46]
+    ensures { λ r. ⌜ r ≡ padded (telegramOf 0 (Message.AnswerReply m)) ⌝ }
+{
+    let t = header(20, 550469);
+    reply_body(t, m.channel, m.result)
 }
 
 pub fn operation_request_form() -> [u8; 46]
@@ -93,6 +141,17 @@ pub fn caller_notice_form(m: CallerNotice) -> [u8; 46]
     one(t, 32, m.order)
 }
 
+pub fn call_result_form(m: CallResult) -> [u8; 46]
+    ensures { λ r. ⌜ r ≡ padded (telegramOf 0 (Message.CallResult m)) ⌝ }
+{
+    let t = header(30, 550480);
+    let t = three(t, 16, m.channel);
+    let t = one(t, 19, m.kind);
+    let t = one(t, 20, m.result);
+    let t = one(t, 21, Number::LEN);
+    eight(t, 22, m.destination.digits)
+}
+
 pub fn capture_request_form(m: CaptureRequest) -> [u8; 46]
     ensures { λ r. ⌜ r ≡ padded (telegramOf 0 (Message.CaptureRequest m)) ⌝ }
 {
@@ -107,8 +166,7 @@ pub fn capture_reply_form(m: CaptureReply) -> [u8; 46]
     ensures { λ r. ⌜ r ≡ padded (telegramOf 0 (Message.CaptureReply m)) ⌝ }
 {
     let t = header(20, 550650);
-    let t = three(t, 16, m.channel);
-    one(t, 19, m.result)
+    reply_body(t, m.channel, m.result)
 }
 
 pub fn capture_state_form(m: CaptureState) -> [u8; 46]

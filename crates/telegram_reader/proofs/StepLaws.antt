@@ -43,7 +43,7 @@ steps-are (r ∷ rs) fit c i b =
 fits : Each Fits table
 unfolding valuesIn
 fits =
-    (record { few = lit≤ tt; same = λ b. refl }, (record { few = lit≤ tt; same = λ b. refl }, (record { few = lit≤ tt; same = λ b. refl }, (record { few = lit≤ tt; same = λ b. refl }, (record { few = lit≤ tt; same = λ b. refl }, (record { few = lit≤ tt; same = λ b. refl }, (record { few = lit≤ tt; same = λ b. refl }, (record { few = lit≤ tt; same = λ b. refl }, (record { few = lit≤ tt; same = λ b. refl }, (record { few = lit≤ tt; same = λ b. refl }, tt))))))))))
+    (record { few = lit≤ tt; same = λ b. refl }, (record { few = lit≤ tt; same = λ b. refl }, (record { few = lit≤ tt; same = λ b. refl }, (record { few = lit≤ tt; same = λ b. refl }, (record { few = lit≤ tt; same = λ b. refl }, (record { few = lit≤ tt; same = λ b. refl }, (record { few = lit≤ tt; same = λ b. refl }, (record { few = lit≤ tt; same = λ b. refl }, (record { few = lit≤ tt; same = λ b. refl }, (record { few = lit≤ tt; same = λ b. refl }, (record { few = lit≤ tt; same = λ b. refl }, (record { few = lit≤ tt; same = λ b. refl }, (record { few = lit≤ tt; same = λ b. refl }, (record { few = lit≤ tt; same = λ b. refl }, tt))))))))))))))
 
 pub read-steps : (c i : ℕ) (b : List ℕ) → readIn table c i b ≡ stepped table c i b
 read-steps c i b = steps-are table fits c i b

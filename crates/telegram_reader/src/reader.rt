@@ -1,8 +1,10 @@
 // Reading telegrams: the header, then the numbers of the body by its list of fields, then the message that they make.
 use fields::Fields;
 use numerals::Digits;
+use telegram::AnswerReply;
 use telegram::BaseArrival;
 use telegram::Call;
+use telegram::CallResult;
 use telegram::CallerNotice;
 use telegram::CaptureReply;
 use telegram::CaptureRequest;
@@ -11,13 +13,15 @@ use telegram::Message;
 use telegram::Number;
 use telegram::OperationAnswer;
 use telegram::Reading;
+use telegram::RingAnswer;
+use telegram::RingNotice;
 use telegram::TimeNotice;
 ghost use mathlib.Core.List.{[], _∷_};
 ghost use mathlib.Core.Path.{_≡_};
 ghost use Rattle.numerals.specs.Digits.{digitsIn};
 ghost use Rattle.fields.specs.Fields.{length4, code};
 ghost use Rattle.fields.specs.Held.{fieldsIn};
-ghost use Rattle.telegram.specs.Telegram.{timeNotice, operationAnswer, baseArrival, call, callerNotice, captureRequest, captureReply, captureState, table, readIn, readTelegram};
+ghost use Rattle.telegram.specs.Telegram.{timeNotice, ringAnswer, operationAnswer, baseArrival, ringNotice, answerReply, call, callerNotice, callResult, captureRequest, captureReply, captureState, table, readIn, readTelegram};
 ghost use Rattle.telegram_reader.specs.Steps.{knownIn, bodyIn, messageIn, headerOf};
 
 fn time_notice(v: [u32; 11]) -> TimeNotice
@@ -30,6 +34,19 @@ fn time_notice(v: [u32; 11]) -> TimeNotice
         hour: v[3],
         minute: v[4],
         second: v[5],
+    }
+}
+
+fn ring_answer(v: [u32; 11]) -> RingAnswer
+    ensures { λ r. ⌜ Message.RingAnswer r ≡ ringAnswer .make v ⌝ }
+{
+    let source = Number::new(v[3]);
+    let destination = Number::new(v[5]);
+    RingAnswer {
+        channel: v[0],
+        kind: v[1],
+        source,
+        destination,
     }
 }
 
@@ -52,6 +69,28 @@ fn base_arrival(v: [u32; 11]) -> BaseArrival
         kind: v[2],
         number,
         order: v[4],
+    }
+}
+
+fn ring_notice(v: [u32; 11]) -> RingNotice
+    ensures { λ r. ⌜ Message.RingNotice r ≡ ringNotice .make v ⌝ }
+{
+    let source = Number::new(v[3]);
+    let destination = Number::new(v[5]);
+    RingNotice {
+        channel: v[0],
+        kind: v[1],
+        source,
+        destination,
+    }
+}
+
+fn answer_reply(v: [u32; 11]) -> AnswerReply
+    ensures { λ r. ⌜ Message.AnswerReply r ≡ answerReply .make v ⌝ }
+{
+    AnswerReply {
+        channel: v[0],
+        result: v[1],
     }
 }
 
@@ -84,6 +123,18 @@ fn caller_notice(v: [u32; 11]) -> CallerNotice
         direction: v[3],
         number,
         order: v[5],
+    }
+}
+
+fn call_result(v: [u32; 11]) -> CallResult
+    ensures { λ r. ⌜ Message.CallResult r ≡ callResult .make v ⌝ }
+{
+    let destination = Number::new(v[4]);
+    CallResult {
+        channel: v[0],
+        kind: v[1],
+        result: v[2],
+        destination,
     }
 }
 
@@ -124,12 +175,16 @@ fn is_known(identifier: u32) -> bool
 {
     match identifier {
         550411 => true,
+        550419 => true,
         550421 => true,
         550461 => true,
         550464 => true,
+        550468 => true,
+        550469 => true,
         550471 => true,
         550473 => true,
         550477 => true,
+        550480 => true,
         550600 => true,
         550650 => true,
         550651 => true,
@@ -168,12 +223,16 @@ fn read_body(identifier: u32, body: &[u8]) -> Fields
 {
     match identifier {
         550411 => fields::read_fields(body, &telegram::TIME_NOTICE),
+        550419 => fields::read_fields(body, &telegram::RING),
         550421 => fields::read_fields(body, &telegram::OPERATION_ANSWER),
         550461 => fields::read_fields(body, &telegram::NO_FIELDS),
         550464 => fields::read_fields(body, &telegram::BASE_ARRIVAL),
+        550468 => fields::read_fields(body, &telegram::RING),
+        550469 => fields::read_fields(body, &telegram::ANSWER_REPLY),
         550471 => fields::read_fields(body, &telegram::NO_FIELDS),
         550473 => fields::read_fields(body, &telegram::CALL),
         550477 => fields::read_fields(body, &telegram::CALLER_NOTICE),
+        550480 => fields::read_fields(body, &telegram::CALL_RESULT),
         550600 => read_capture_request(body),
         550650 => fields::read_fields(body, &telegram::CAPTURE_REPLY),
         550651 => fields::read_fields(body, &telegram::CAPTURE_STATE),
@@ -187,12 +246,16 @@ fn message_of(identifier: u32, v: [u32; 11]) -> Message
 {
     match identifier {
         550411 => Message::TimeNotice(time_notice(v)),
+        550419 => Message::RingAnswer(ring_answer(v)),
         550421 => Message::OperationAnswer(operation_answer(v)),
         550461 => Message::TimeRequest,
         550464 => Message::BaseArrival(base_arrival(v)),
+        550468 => Message::RingNotice(ring_notice(v)),
+        550469 => Message::AnswerReply(answer_reply(v)),
         550471 => Message::OperationRequest,
         550473 => Message::Call(call(v)),
         550477 => Message::CallerNotice(caller_notice(v)),
+        550480 => Message::CallResult(call_result(v)),
         550600 => Message::CaptureRequest(capture_request(v)),
         550650 => Message::CaptureReply(capture_reply(v)),
         550651 => Message::CaptureState(capture_state(v)),

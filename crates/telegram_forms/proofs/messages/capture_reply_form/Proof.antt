@@ -1,12 +1,12 @@
--- `telegram_forms::messages::capture_reply_form` meets its contract: header and numbers in the order of the row.
+-- `telegram_forms::messages::capture_reply_form` meets its contract: header and body of the row.
 -- Assumes nothing.
 use borrow.Author.Needs.{needs}
-use Rattle.telegram_forms.proofs.PutLaws.{put-form}
+use Rattle.telegram_forms.proofs.PutLaws.{put-body}
 use Rattle.telegram_forms.proofs.messages.capture_reply_form.Statement.{statement}
 use Rattle.telegram_forms.proofs.messages.capture_reply_form.Tie as tie
 
 returns : tie.Need-returns
-returns c = rw (c .one .ensures, c .before .three .ensures, c .before .before .header .ensures) (put-form _)
+returns c = rw (c .reply-body .ensures, c .before .header .ensures) (put-body _)
 
 pub capture-reply-form-spec : {M : Type 1} → statement M
-capture-reply-form-spec = tie.close (tie.spec (λ c κs. search needs) (λ c κs. search needs) (λ c κs. search needs) returns)
+capture-reply-form-spec = tie.close (tie.spec (λ c κs. search needs) (λ c κs. search needs) returns)
