@@ -24,7 +24,7 @@ isIn (suc d) m = isIn d (m / 2)
 
 abbrev pub freeChannel : ℕ → ℕ → Channel
 freeChannel k m =
-    record { code = k; entitled = m; holder = Nobody; presser = Nobody; quiet = 0; release = 0; call = Closed; arrival = Absent }
+    record { code = k; entitled = m; holder = Nobody; presser = Nobody; quiet = 0; release = 0; ring = 0; call = Closed; arrival = Absent }
 
 -- somebody holds the channel, or its talk key
 abbrev pub isHeld : Party → Bool

@@ -39,9 +39,10 @@ pub struct Channel {
     // Who has captured it, and who presses the talk key on it: the holder, if anyone.
     pub holder: Party,
     pub presser: Party,
-    // The quiet timer and the release timer: seconds left, 0 when stopped (01: clocks).
+    // The quiet timer, the release timer and, while a mobile rings, the ring timer: seconds left, 0 when stopped (01: clocks).
     pub quiet: u8,
     pub release: u8,
+    pub ring: u8,
     pub call: Call,
     pub arrival: Arrival,
 }
@@ -52,6 +53,9 @@ impl Channel {
 
     // How long a holder keeps the channel without talk.
     pub const RELEASE: u8 = 120;
+
+    // How long a mobile rings without an answer.
+    pub const RING: u8 = 15;
 
     // A channel on which nothing goes on.
     pub fn new(code: u8, entitled: u8) -> Channel
@@ -64,6 +68,7 @@ impl Channel {
             presser: Party::Nobody,
             quiet: 0,
             release: 0,
+            ring: 0,
             call: Call::Closed,
             arrival: Arrival::Absent,
         }
@@ -81,6 +86,12 @@ pub enum Event {
     PressOff,
     MobileOn { base: u16, number: Number },
     MobileOff,
+    // The desk that a mobile calls, and the mobile's base and number.
+    Ring { desk: u8, base: u16, number: Number },
+    // The mobile that rings gives up.
+    Cancel,
+    // A desk's ring answer, and whether it matches the ring.
+    RingAnswer { desk: u8, matched: bool },
     Tick,
     EndTalk,
     EndCall,
@@ -128,6 +139,18 @@ pub enum Notice {
         holder: u8,
         state: u8,
     },
+    // A mobile rings the desk that gets it.
+    RingNotice {
+        number: Number,
+    },
+    // Whether the ring answer of the desk that gets it was taken.
+    AnswerReply {
+        result: u8,
+    },
+    // Whether the desk that gets it answered the mobile that rang it.
+    CallResult {
+        result: u8,
+    },
 }
 
 // One record to every desk of a set, lowest first. To the empty set nothing is sent.
@@ -143,9 +166,10 @@ pub struct Moved {
     pub sends: [Send; 7],
 }
 
-// What a tick does to the timers: neither falls, one of them falls to so many seconds, or one runs out.
+// What a tick does to the timers: none falls, one of them falls to so many seconds, or one runs out.
 pub enum Falling {
-    Neither,
+    Still,
+    Ring(u8),
     Quiet(u8),
     Release(u8),
     Due,

@@ -8,7 +8,7 @@ use mathlib.Core.Path.{_≡_}
 use Rattle.laws.specs.Each.{Each}
 use Rattle.telegram.specs.Telegram.{num}
 use Rattle.telegram.specs.declared.message.Number.{Number}
-use Rattle.telegram.specs.declared.message.Message.the-variants.{TimeNotice, OperationAnswer, TimeRequest, BaseArrival as Arrived, OperationRequest, Call as CallMade, CallerNotice as Talks, CaptureRequest, CaptureReply as Reply, CaptureState as State}
+use Rattle.telegram.specs.declared.message.Message.the-variants.{TimeNotice, RingAnswer as Answers, OperationAnswer, TimeRequest, BaseArrival as Arrived, RingNotice as Rings, AnswerReply as Taken, OperationRequest, Call as CallMade, CallerNotice as Talks, CallResult as Result, CaptureRequest, CaptureReply as Reply, CaptureState as State}
 use Rattle.channel.specs.State.{isIn}
 use Rattle.channel.specs.declared.state.Party.{Party}
 use Rattle.channel.specs.declared.state.Party.the-variants.{Nobody, By}
@@ -18,9 +18,9 @@ use Rattle.channel.specs.declared.state.Arrival.{Arrival}
 use Rattle.channel.specs.declared.state.Arrival.the-variants.{Absent, Present}
 use Rattle.channel.specs.declared.state.Channel.{Channel}
 use Rattle.channel.specs.declared.state.Event.{Event}
-use Rattle.channel.specs.declared.state.Event.the-variants.{Capture, Release, Cut, PressOn, PressOff, MobileOn, MobileOff, Tick, EndTalk, EndCall}
+use Rattle.channel.specs.declared.state.Event.the-variants.{Capture, Release, Cut, PressOn, PressOff, MobileOn, MobileOff, Ring, Cancel, RingAnswer, Tick, EndTalk, EndCall}
 use Rattle.channel.specs.declared.state.Notice.{Notice}
-use Rattle.channel.specs.declared.state.Notice.the-variants.{PressAnswer, Incoming, BaseArrival, Call as CallNotice, PressNotice, CallerNotice, CaptureReply, CaptureState}
+use Rattle.channel.specs.declared.state.Notice.the-variants.{PressAnswer, Incoming, BaseArrival, Call as CallNotice, PressNotice, CallerNotice, CaptureReply, CaptureState, RingNotice, AnswerReply, CallResult}
 use Rattle.channel.specs.declared.state.Send.{Send}
 use Rattle.line_rules.specs.Rules.{Step}
 use Rattle.line_rules.specs.Notices.{Content, telegram, contact}
@@ -34,12 +34,16 @@ pub record Around : Type 1 where
 -- the numbers in what a desk is told
 abbrev pub numbersIn : Content → List Number
 numbersIn (telegram (TimeNotice m)) = []
+numbersIn (telegram (Answers m)) = m .source ∷ m .destination ∷ []
 numbersIn (telegram (OperationAnswer m)) = []
 numbersIn (telegram TimeRequest) = []
 numbersIn (telegram (Arrived m)) = m .number ∷ []
+numbersIn (telegram (Rings m)) = m .source ∷ m .destination ∷ []
+numbersIn (telegram (Taken m)) = []
 numbersIn (telegram OperationRequest) = []
 numbersIn (telegram (CallMade m)) = m .source ∷ m .destination ∷ []
 numbersIn (telegram (Talks m)) = m .number ∷ []
+numbersIn (telegram (Result m)) = m .destination ∷ []
 numbersIn (telegram (CaptureRequest m)) = m .number ∷ []
 numbersIn (telegram (Reply m)) = []
 numbersIn (telegram (State m)) = m .number ∷ []
@@ -89,6 +93,9 @@ module _ (w : Around) where
   FitsAmong PressOff c = Unit {0}
   FitsAmong (MobileOn b n) c = w .mobile n
   FitsAmong MobileOff c = Unit {0}
+  FitsAmong (Ring d b n) c = Listens c d × w .mobile n
+  FitsAmong Cancel c = Unit {0}
+  FitsAmong (RingAnswer d matched) c = Listens c d
   FitsAmong Tick c = Unit {0}
   FitsAmong EndTalk c = Unit {0}
   FitsAmong EndCall c = Unit {0}
@@ -105,6 +112,9 @@ module _ (w : Around) where
   NoticeTold c m (CallerNotice k b n o) = Told c m n
   NoticeTold c m (CaptureReply r) = AllListen c m
   NoticeTold c m (CaptureState h s) = AllListen c m
+  NoticeTold c m (RingNotice n) = Told c m n
+  NoticeTold c m (AnswerReply r) = AllListen c m
+  NoticeTold c m (CallResult r) = AllListen c m
 
   abbrev pub SendTold : Channel → Send → Type 0
   SendTold c s = NoticeTold c (s .recipients) (s .notice)

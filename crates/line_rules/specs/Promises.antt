@@ -11,21 +11,22 @@ use Rattle.laws.specs.Each.{Each}
 use Rattle.telegram.specs.Telegram.{num}
 use Rattle.telegram.specs.declared.message.Number.{Number}
 use Rattle.channel.specs.State.{only, isIn, freeChannel, isHeld, isPresent, holderPlace}
-use Rattle.line_rules.specs.Rules.{quietTime, releaseTime, cut, pressOff, mobileOn, mobileOff, tick, isOpen, endOf, freedSends, mobileRecipients, happens}
+use Rattle.line_rules.specs.Rules.{quietTime, releaseTime, to, isRinging, cut, pressOff, mobileOn, mobileOff, ringCall, ring, unanswered, tick, isOpen, endOf, freedSends, mobileRecipients, happens}
 use Rattle.line_rules.specs.Notices.{contentFor}
-use Rattle.line_rules.specs.Veil.{hide, hideArrival, hideStep}
+use Rattle.line_rules.specs.Veil.{hideCall, hideArrival, hide, hideStep}
 use Rattle.line_rules.specs.Turns.{ordersTo, lasting, ByTurns, Begins}
 use Rattle.line_rules.specs.Invariant.{NumberOk, ChannelOk, Fits, NoticeOk, StepOk, ContentOk}
 use Rattle.line_rules.specs.Among.{Around, numbersIn, AllListen, ForDesk, Among, FitsAmong, NoticeTold, StepAmong}
 use Rattle.channel.specs.declared.state.Party.the-variants.{Nobody, By}
 use Rattle.channel.specs.declared.state.Call.{Call}
+use Rattle.channel.specs.declared.state.Call.the-variants.{Open}
 use Rattle.channel.specs.declared.state.Arrival.{Arrival}
 use Rattle.channel.specs.declared.state.Arrival.the-variants.{Absent, Present}
 use Rattle.channel.specs.declared.state.Channel.{Channel}
 use Rattle.channel.specs.declared.state.Event.{Event}
-use Rattle.channel.specs.declared.state.Event.the-variants.{Capture, Release, Cut, PressOn, PressOff, MobileOn, MobileOff, Tick, EndTalk, EndCall}
+use Rattle.channel.specs.declared.state.Event.the-variants.{Capture, Release, Cut, PressOn, PressOff, MobileOn, MobileOff, Ring, Cancel, RingAnswer, Tick, EndTalk, EndCall}
 use Rattle.channel.specs.declared.state.Notice.{Notice}
-use Rattle.channel.specs.declared.state.Notice.the-variants.{PressAnswer, Incoming, BaseArrival, Call as CallNotice, PressNotice, CallerNotice, CaptureReply, CaptureState}
+use Rattle.channel.specs.declared.state.Notice.the-variants.{PressAnswer, Incoming, BaseArrival, Call as CallNotice, PressNotice, CallerNotice, CaptureReply, CaptureState, RingNotice, AnswerReply, CallResult}
 use Rattle.channel.specs.declared.state.Send.{Send}
 
 abbrev pub recipientsOf : List Send → List ℕ
@@ -62,15 +63,18 @@ About P (PressNotice k o) = Unit {0}
 About P (CallerNotice k b n o) = Unit {0}
 About P (CaptureReply r) = Unit {0}
 About P (CaptureState h s) = P h
+About P (RingNotice n) = Unit {0}
+About P (AnswerReply r) = Unit {0}
+About P (CallResult r) = Unit {0}
 
 abbrev pub IsAbout : (ℕ → Type 0) → Send → Type 0
 IsAbout P s = About P (s .notice)
 
--- the holder, or the desk that captures
+-- the holder, or the desk that captures or answers a ring
 abbrev pub Concerned : Event → Channel → ℕ → Type 0
-Concerned v c d = (d ≡ holderPlace (c .holder)) ⊎ (v ≡ Capture d)
+Concerned v c d = (d ≡ holderPlace (c .holder)) ⊎ ((v ≡ Capture d) ⊎ (v ≡ RingAnswer d true))
 
--- Every 550651 that an event sends is about the holder, or the desk that captures (`Traps.about-the-holder`).
+-- Every 550651 that an event sends is about the holder, or the desk that captures or answers a ring (`Traps.about-the-holder`).
 abbrev pub AboutTheHolder : Type 0
 AboutTheHolder = (v : Event) (e : ℕ) (c : Channel) → Each (IsAbout (Concerned v c)) (happens v e c .sends)
 
@@ -91,7 +95,7 @@ OneTimerAtATime = (e : ℕ) (c : Channel) → ltb 0 (c .quiet) ≡ true → tick
 -- a held channel with no press and no arrival, its timers just started
 unfoldable pub quietly : ℕ → ℕ → ℕ → Call → Channel
 quietly code entitled d k =
-    record { code = code; entitled = entitled; holder = By d; presser = Nobody; quiet = quietTime; release = releaseTime; call = k; arrival = Absent }
+    record { code = code; entitled = entitled; holder = By d; presser = Nobody; quiet = quietTime; release = releaseTime; ring = 0; call = k; arrival = Absent }
 
 -- what each of so many ticks sends, and whether a call is open and the channel held after it
 unfoldable pub byTicks : ℕ → ℕ → Channel → List (List Send × (Bool × Bool))
@@ -103,10 +107,51 @@ byTicks (suc n) e c =
 -- (`Traps.ten-and-a-hundred-and-thirty`); while a desk presses, a call is open (`StaysOk`)
 abbrev pub TenAndAHundredAndThirty : Type 0
 TenAndAHundredAndThirty =
-    (e : ℕ) (c : Channel) (d : ℕ) → c .holder ≡ By d → c .arrival ≡ Absent → isOpen (c .call) ≡ true
+    (e : ℕ) (c : Channel) (d : ℕ) → c .holder ≡ By d → c .arrival ≡ Absent → isOpen (c .call) ≡ true → c .ring ≡ 0
     → byTicks 130 e (pressOff c .next)
     ≡ replicate 9 ([], (true, true))
     ++ ((endOf 3 (c .call), (false, true)) ∷ replicate 119 ([], (false, true)) ++ ((freedSends e c, (false, false)) ∷ []))
+
+-- ---- Rings (02 §1)
+
+-- "A ring sends the called desk, and it alone": all of it goes to that desk, and the call that is kept is that desk's
+-- (`Traps.ring-to-the-called`).
+abbrev pub RingToTheCalled : Type 0
+RingToTheCalled =
+    (d b : ℕ) (n : Number) (c : Channel)
+    → Each (GoesTo (only d)) (ring d b n c .sends) × (ring d b n c .next .call ≡ Open 3 2 (only d) b n)
+
+-- "gives that desk, and no other": the end of a ring that is not answered goes to those whom its call was told to
+-- (`Traps.ring-end-to-the-called`).
+abbrev pub RingEndToTheCalled : Type 0
+RingEndToTheCalled =
+    (reason : ℕ) (c : Channel) (k d m b : ℕ) (n : Number) → c .call ≡ Open k d m b n → Each (GoesTo m) (unanswered reason c .sends)
+
+-- whether a mobile still rings after each of so many ticks, and what each sends
+unfoldable pub ringTicks : ℕ → ℕ → Channel → List (List Send × Bool)
+ringTicks zero e c = []
+ringTicks (suc n) e c = (tick e c .sends, isRinging (tick e c .next)) ∷ ringTicks n e (tick e c .next)
+
+-- "The fifteenth tick without it": fourteen send nothing, the fifteenth ends the ring (`Traps.fourteen-and-the-fifteenth`).
+abbrev pub FourteenAndTheFifteenth : Type 0
+FourteenAndTheFifteenth =
+    (e d b : ℕ) (n : Number) (c : Channel)
+    → ringTicks 15 e (ring d b n c .next)
+    ≡ replicate 14 ([], true)
+    ++ ((to (only d) (Incoming 0) ∷ to (only d) (CallResult 0) ∷ endOf 5 (ringCall d b n), false) ∷ [])
+
+-- "a cancel gives the same with reason 02" (`Traps.cancel-is-the-same`).
+abbrev pub CancelIsTheSame : Type 0
+CancelIsTheSame =
+    (e d b : ℕ) (n : Number) (c : Channel)
+    → happens Cancel e (ring d b n c .next) .sends
+    ≡ to (only d) (Incoming 0) ∷ to (only d) (CallResult 0) ∷ endOf 2 (ringCall d b n)
+
+-- "A handover ends it as a cancel does" (`Traps.handover-cancels`).
+abbrev pub HandoverCancels : Type 0
+HandoverCancels =
+    (e : ℕ) (c : Channel) → ChannelOk c → isRinging c ≡ true
+    → happens EndTalk e c .sends ++ happens EndCall e c .sends ≡ happens Cancel e c .sends
 
 -- ---- What holds of every channel
 
@@ -153,6 +198,9 @@ HideTwice = (B : ℕ) (c : Channel) → hide B (hide B c) ≡ hide B c
 abbrev pub PresentHide : Type 0
 PresentHide = (B : ℕ) (a : Arrival) → isPresent (hideArrival B a) ≡ isPresent a
 
+abbrev pub OpenHide : Type 0
+OpenHide = (B : ℕ) (k : Call) → isOpen (hideCall B k) ≡ isOpen k
+
 abbrev pub HappensHide : Type 0
 HappensHide = (B : ℕ) (v : Event) (e : ℕ) (c : Channel) → hideStep B (happens v e (hide B c)) ≡ hideStep B (happens v e c)
 
@@ -161,6 +209,11 @@ abbrev pub NumberHidden : Type 0
 NumberHidden =
     (B e b : ℕ) (n n′ : Number) (c : Channel) → isIn B (mobileRecipients (c .holder) e) ≡ false
     → hideStep B (mobileOn e b n c) ≡ hideStep B (mobileOn e b n′ c)
+
+-- So is that of a mobile that rings another desk.
+abbrev pub RingHidden : Type 0
+RingHidden =
+    (B d b : ℕ) (n n′ : Number) (c : Channel) → isIn B (only d) ≡ false → hideStep B (ring d b n c) ≡ hideStep B (ring d b n′ c)
 
 -- ---- Holdings
 
@@ -173,13 +226,18 @@ Ends (PressOn d′ n) c d = ⊥
 Ends PressOff c d = ⊥
 Ends (MobileOn b n) c d = ⊥
 Ends MobileOff c d = ⊥
+Ends (Ring d′ b n) c d = ⊥
+Ends Cancel c d = ⊥
+Ends (RingAnswer d′ matched) c d = ⊥
 Ends Tick c d = c .release ≤ 1
 Ends EndTalk c d = Unit {0}
 Ends EndCall c d = Unit {0}
 
 -- A holding lasts unless one of these ends it (`Kept.holding-lasts`).
 abbrev pub HoldingLasts : Type 0
-HoldingLasts = (v : Event) (e : ℕ) (c : Channel) (d : ℕ) → c .holder ≡ By d → (happens v e c .next .holder ≡ By d) ⊎ Ends v c d
+HoldingLasts =
+    (v : Event) (e : ℕ) (c : Channel) (d : ℕ) → Fits v c → ChannelOk c → c .holder ≡ By d
+    → (happens v e c .next .holder ≡ By d) ⊎ Ends v c d
 
 -- ---- The plan's part of a channel
 
@@ -192,11 +250,11 @@ KeepsPlace = (v : Event) (e : ℕ) (c : Channel) → (happens v e c .next .code 
 -- On every matter a desk is told start and end by turns, and of each end whose start it was told (`Kept.by-turns`).
 abbrev pub GoesByTurns : Type 0
 GoesByTurns =
-    (B x : ℕ) (v : Event) (e : ℕ) (c : Channel) → x ≤ 6 → Begins v c
+    (B x : ℕ) (v : Event) (e : ℕ) (c : Channel) → x ≤ 6 → Fits v c → ChannelOk c → Begins x v c
     → ByTurns (lasting B x c) (ordersTo B x (happens v e c .sends)) (lasting B x (happens v e c .next))
 
 -- After the two parts of a handover nothing lasts (`Kept.handover-ends`).
 abbrev pub HandoverEnds : Type 0
 HandoverEnds =
-    (B x : ℕ) (e : ℕ) (c : Channel) → x ≤ 6
+    (B x : ℕ) (e : ℕ) (c : Channel) → x ≤ 6 → ChannelOk c
     → ByTurns (lasting B x c) (ordersTo B x (happens EndTalk e c .sends ++ happens EndCall e c .sends)) false

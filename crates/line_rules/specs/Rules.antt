@@ -1,4 +1,4 @@
--- 01, Line rules: what happens on one channel. Each rule gives the channel after it and what it sends, in order.
+-- 01, Line rules, and 02 §1, a mobile that rings one desk: what happens on one channel. Each rule gives the channel after it and what it sends, in order.
 use Prim.Native.Nat.{ℕ, _-_}
 use mathlib.Core.List.{List, [], _∷_, _++_}
 use mathlib.Core.Bool.{Bool, true, false, cond}
@@ -13,9 +13,9 @@ use Rattle.channel.specs.declared.state.Arrival.{Arrival}
 use Rattle.channel.specs.declared.state.Arrival.the-variants.{Absent, Present}
 use Rattle.channel.specs.declared.state.Channel.{Channel}
 use Rattle.channel.specs.declared.state.Event.{Event}
-use Rattle.channel.specs.declared.state.Event.the-variants.{Capture, Release, Cut, PressOn, PressOff, MobileOn, MobileOff, Tick, EndTalk, EndCall}
+use Rattle.channel.specs.declared.state.Event.the-variants.{Capture, Release, Cut, PressOn, PressOff, MobileOn, MobileOff, Ring, Cancel, RingAnswer, Tick, EndTalk, EndCall}
 use Rattle.channel.specs.declared.state.Notice.{Notice}
-use Rattle.channel.specs.declared.state.Notice.the-variants.{PressAnswer, Incoming, BaseArrival, Call as CallNotice, PressNotice, CallerNotice, CaptureReply, CaptureState}
+use Rattle.channel.specs.declared.state.Notice.the-variants.{PressAnswer, Incoming, BaseArrival, Call as CallNotice, PressNotice, CallerNotice, CaptureReply, CaptureState, RingNotice, AnswerReply, CallResult}
 use Rattle.channel.specs.declared.state.Send.{Send}
 
 -- ---- words
@@ -27,9 +27,16 @@ quietTime = 10
 abbrev pub releaseTime : ℕ
 releaseTime = 120
 
--- "Type is always 1": a general call
+-- 02 §1: "the fifteenth tick"
+abbrev pub ringTime : ℕ
+ringTime = 15
+
+-- a general call, and 02 §1's: "the call, its presses and arrivals begun in it have type 3"
 abbrev pub general : ℕ
 general = 1
+
+abbrev pub individual : ℕ
+individual = 3
 
 abbrev pub down : ℕ
 down = 1
@@ -56,27 +63,31 @@ sentIf t ss = cond t ss []
 
 abbrev pub withHolder : Party → Channel → Channel
 withHolder h c =
-    record { code = c .code; entitled = c .entitled; holder = h; presser = c .presser; quiet = c .quiet; release = c .release; call = c .call; arrival = c .arrival }
+    record { code = c .code; entitled = c .entitled; holder = h; presser = c .presser; quiet = c .quiet; release = c .release; ring = c .ring; call = c .call; arrival = c .arrival }
 
 abbrev pub withPresser : Party → Channel → Channel
 withPresser p c =
-    record { code = c .code; entitled = c .entitled; holder = c .holder; presser = p; quiet = c .quiet; release = c .release; call = c .call; arrival = c .arrival }
+    record { code = c .code; entitled = c .entitled; holder = c .holder; presser = p; quiet = c .quiet; release = c .release; ring = c .ring; call = c .call; arrival = c .arrival }
 
 abbrev pub withQuiet : ℕ → Channel → Channel
 withQuiet n c =
-    record { code = c .code; entitled = c .entitled; holder = c .holder; presser = c .presser; quiet = n; release = c .release; call = c .call; arrival = c .arrival }
+    record { code = c .code; entitled = c .entitled; holder = c .holder; presser = c .presser; quiet = n; release = c .release; ring = c .ring; call = c .call; arrival = c .arrival }
 
 abbrev pub withRelease : ℕ → Channel → Channel
 withRelease n c =
-    record { code = c .code; entitled = c .entitled; holder = c .holder; presser = c .presser; quiet = c .quiet; release = n; call = c .call; arrival = c .arrival }
+    record { code = c .code; entitled = c .entitled; holder = c .holder; presser = c .presser; quiet = c .quiet; release = n; ring = c .ring; call = c .call; arrival = c .arrival }
+
+abbrev pub withRing : ℕ → Channel → Channel
+withRing n c =
+    record { code = c .code; entitled = c .entitled; holder = c .holder; presser = c .presser; quiet = c .quiet; release = c .release; ring = n; call = c .call; arrival = c .arrival }
 
 abbrev pub withCall : Call → Channel → Channel
 withCall k c =
-    record { code = c .code; entitled = c .entitled; holder = c .holder; presser = c .presser; quiet = c .quiet; release = c .release; call = k; arrival = c .arrival }
+    record { code = c .code; entitled = c .entitled; holder = c .holder; presser = c .presser; quiet = c .quiet; release = c .release; ring = c .ring; call = k; arrival = c .arrival }
 
 abbrev pub withArrival : Arrival → Channel → Channel
 withArrival a c =
-    record { code = c .code; entitled = c .entitled; holder = c .holder; presser = c .presser; quiet = c .quiet; release = c .release; call = c .call; arrival = a }
+    record { code = c .code; entitled = c .entitled; holder = c .holder; presser = c .presser; quiet = c .quiet; release = c .release; ring = c .ring; call = c .call; arrival = a }
 
 -- ---- choices by what the channel has
 
@@ -87,6 +98,10 @@ partySet (By d) = only d
 
 abbrev pub isPressed : Channel → Bool
 isPressed c = isHeld (c .presser)
+
+-- a mobile rings: "ring clock"
+abbrev pub isRinging : Channel → Bool
+isRinging c = ltb 0 (c .ring)
 
 abbrev pub isOpen : Call → Bool
 isOpen Closed = false
@@ -136,17 +151,22 @@ mobileOffSends (Present k m b n) = to m (Incoming 0) ∷ to m (BaseArrival k b n
 abbrev pub freedSends : ℕ → Channel → List Send
 freedSends e c = to e (CaptureState (holderPlace (c .holder)) 0) ∷ []
 
+-- 02 §1: "incoming OFF, 550480 result 0", to the called desk, and that is whom the call was told to
+abbrev pub ringOffSends : Call → List Send
+ringOffSends Closed = []
+ringOffSends (Open k d m b s) = to m (Incoming 0) ∷ to m (CallResult 0) ∷ []
+
 -- ---- the rules. E, "the set of running entitled desks", is e.
 
 -- "Capture (550600 order 1). Free: holder set, release clock 120; 550650 result 0 to the desk, 550651 state 1 to E, with
 -- the holder's number for the holder and the none-number for all others. Held by the same desk: 550650 result 0 only.
--- Held by another: 550650 result 1 only."
+-- Held by another: 550650 result 1 only." 02 §1: "A capture request during a ring gets result 1."
 abbrev pub captured : ℕ → ℕ → Channel → Step
 captured e d c =
     step (withHolder (By d) (withRelease releaseTime c)) (to (only d) (CaptureReply 0) ∷ to e (CaptureState d 1) ∷ [])
 
 abbrev pub captureAt : Party → ℕ → ℕ → Channel → Step
-captureAt Nobody e d c = captured e d c
+captureAt Nobody e d c = cond (isRinging c) (step c (to (only d) (CaptureReply 1) ∷ [])) (captured e d c)
 captureAt (By h) e d c = step c (to (only d) (CaptureReply (cond (eqb h d) 0 1)) ∷ [])
 
 unfoldable pub capture : ℕ → ℕ → Channel → Step
@@ -218,6 +238,35 @@ mobileOff c =
     (withRelease (cond (isHeld (c .holder)) releaseTime (c .release)) (withArrival Absent c)))
     (mobileOffSends (c .arrival))
 
+-- 02 §1: "A ring sends the called desk, and it alone, incoming ON, the notice, then 550473 start (up, the mobile's base and
+-- number)". The ring is that call, told to the called desk d alone, and the ring timer.
+abbrev pub ringCall : ℕ → ℕ → Number → Call
+ringCall d b n = Open individual up (only d) b n
+
+unfoldable pub ring : ℕ → ℕ → Number → Channel → Step
+ring d b n c =
+    step
+    (withRing ringTime (withCall (ringCall d b n) c))
+    (to (only d) (Incoming 1) ∷ to (only d) (RingNotice n) ∷ startOf (ringCall d b n))
+
+-- 02 §1: "The fifteenth tick without it gives that desk, and no other, incoming OFF, 550480 result 0, 550473 end, reason 05; a cancel
+-- gives the same with reason 02."
+unfoldable pub unanswered : ℕ → Channel → Step
+unanswered reason c =
+    step (withRing 0 (withCall Closed c)) (ringOffSends (c .call) ++ endOf reason (c .call))
+
+-- 02 §1: "550419 from that desk .. gives it 550469 with 1 and 550480 result 1, then 550651, holder and release clock as at a capture,
+-- quiet clock 10"
+unfoldable pub answered : ℕ → ℕ → Channel → Step
+answered e d c =
+    step
+    (withHolder (By d) (withRing 0 (withQuiet quietTime (withRelease releaseTime c))))
+    (to (only d) (AnswerReply 1) ∷ to (only d) (CallResult 1) ∷ to e (CaptureState d 1) ∷ [])
+
+-- "A 550419 .. that doesn't match .. gets 550469 with 0." Whether it matches is not for the rule to say: `answersRing`, beside the set.
+unfoldable pub ringAnswer : ℕ → ℕ → Bool → Channel → Step
+ringAnswer e d matched c = cond matched (answered e d c) (step c (to (only d) (AnswerReply 0) ∷ []))
+
 -- "Tick .. Pressed or arrival: nothing. Else if the quiet clock runs, it falls by 1; at 0 550473 end, reason 03, to the
 -- call's told set, and the call is gone."
 unfoldable pub tickQuiet : Channel → Step
@@ -236,12 +285,18 @@ tickRelease e c =
 unfoldable pub tickIdle : ℕ → Channel → Step
 tickIdle e c = cond (ltb 0 (c .quiet)) (tickQuiet c) (cond (isHeld (c .holder)) (tickRelease e c) (step c []))
 
+-- 02 §1: "The fifteenth tick without it"; while a mobile rings no other timer runs
+unfoldable pub tickRing : Channel → Step
+tickRing c = cond (leb (c .ring) 1) (unanswered 5 c) (step (withRing (c .ring - 1) c) [])
+
 unfoldable pub tick : ℕ → Channel → Step
-tick e c = cond (isPressed c) (step c []) (cond (isPresent (c .arrival)) (step c []) (tickIdle e c))
+tick e c =
+    cond (isRinging c) (tickRing c)
+    (cond (isPressed c) (step c []) (cond (isPresent (c .arrival)) (step c []) (tickIdle e c)))
 
 -- "Handover, per channel .., each only where there is something to end: press-off records; mobile-off records;" and then, in a
 -- list of its own, "550473 end, reason 02, to the call's told set; 550651 state 0 to E as at cut". Both are of the channel as it
--- was, and nothing goes on after them.
+-- was, and nothing goes on after them. 02 §1: "A handover ends it as a cancel does."
 abbrev pub freed : Channel → Channel
 freed c = freeChannel (c .code) (c .entitled)
 
@@ -249,7 +304,9 @@ unfoldable pub endTalk : Channel → Step
 endTalk c = step (freed c) (pressOffSends (c .presser) (c .call) ++ mobileOffSends (c .arrival))
 
 unfoldable pub endCall : ℕ → Channel → Step
-endCall e c = step (freed c) (endOf 2 (c .call) ++ sentIf (isHeld (c .holder)) (freedSends e c))
+endCall e c =
+    step (freed c)
+    (sentIf (isRinging c) (ringOffSends (c .call)) ++ (endOf 2 (c .call) ++ sentIf (isHeld (c .holder)) (freedSends e c)))
 
 -- what happens on a channel, by its event
 unfoldable pub happens : Event → ℕ → Channel → Step
@@ -260,6 +317,9 @@ happens (PressOn d n) e c = pressOn d n c
 happens PressOff e c = pressOff c
 happens (MobileOn b n) e c = mobileOn e b n c
 happens MobileOff e c = mobileOff c
+happens (Ring d b n) e c = ring d b n c
+happens Cancel e c = unanswered 2 c
+happens (RingAnswer d matched) e c = ringAnswer e d matched c
 happens Tick e c = tick e c
 happens EndTalk e c = endTalk c
 happens EndCall e c = endCall e c

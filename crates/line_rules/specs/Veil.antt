@@ -13,7 +13,7 @@ use Rattle.channel.specs.declared.state.Arrival.{Arrival}
 use Rattle.channel.specs.declared.state.Arrival.the-variants.{Absent, Present}
 use Rattle.channel.specs.declared.state.Channel.{Channel}
 use Rattle.channel.specs.declared.state.Notice.{Notice}
-use Rattle.channel.specs.declared.state.Notice.the-variants.{PressAnswer, Incoming, BaseArrival, Call as CallNotice, PressNotice, CallerNotice, CaptureReply, CaptureState}
+use Rattle.channel.specs.declared.state.Notice.the-variants.{PressAnswer, Incoming, BaseArrival, Call as CallNotice, PressNotice, CallerNotice, CaptureReply, CaptureState, RingNotice, AnswerReply, CallResult}
 use Rattle.channel.specs.declared.state.Send.{Send}
 
 -- a number that is hidden unless seen
@@ -32,7 +32,7 @@ module _ (B : ℕ) where
 
   abbrev pub hide : Channel → Channel
   hide c =
-      record { code = c .code; entitled = c .entitled; holder = c .holder; presser = c .presser; quiet = c .quiet; release = c .release; call = hideCall (c .call); arrival = hideArrival (c .arrival) }
+      record { code = c .code; entitled = c .entitled; holder = c .holder; presser = c .presser; quiet = c .quiet; release = c .release; ring = c .ring; call = hideCall (c .call); arrival = hideArrival (c .arrival) }
 
   abbrev pub hideNotice : Bool → Notice → Notice
   hideNotice t (PressAnswer on) = PressAnswer on
@@ -43,6 +43,9 @@ module _ (B : ℕ) where
   hideNotice t (CallerNotice k b n o) = CallerNotice k b (veil t n) o
   hideNotice t (CaptureReply r) = CaptureReply r
   hideNotice t (CaptureState h s) = CaptureState h s
+  hideNotice t (RingNotice n) = RingNotice (veil t n)
+  hideNotice t (AnswerReply r) = AnswerReply r
+  hideNotice t (CallResult r) = CallResult r
 
   abbrev pub hideSend : Send → Send
   hideSend s = to (s .recipients) (hideNotice (isIn B (s .recipients)) (s .notice))

@@ -6,7 +6,7 @@ use lib.Dec.{eqb}
 use lib.ListN.{length, drop, getD}
 use Rattle.telegram.specs.Telegram.{readTelegram}
 use Rattle.telegram.specs.declared.message.Message.{Message}
-use Rattle.telegram.specs.declared.message.Message.the-variants.{TimeNotice, OperationAnswer, TimeRequest, BaseArrival, OperationRequest, Call, CallerNotice, CaptureRequest, CaptureReply, CaptureState}
+use Rattle.telegram.specs.declared.message.Message.the-variants.{TimeNotice, RingAnswer, OperationAnswer, TimeRequest, BaseArrival, RingNotice, AnswerReply, OperationRequest, Call, CallerNotice, CallResult, CaptureRequest, CaptureReply, CaptureState}
 use Rattle.telegram.specs.declared.message.Reading.{Reading}
 use Rattle.telegram.specs.declared.message.Reading.the-variants.{Telegram, Refused}
 use Rattle.channel.specs.State.{isIn}
@@ -61,12 +61,16 @@ lettersOf ds (v ∷ vs) = lettersTo 8 0 ds v ++ lettersOf ds vs
 -- its channel, if it names one
 abbrev pub channelNamed : Message → List ℕ
 channelNamed (TimeNotice m) = []
+channelNamed (RingAnswer m) = m .channel ∷ []
 channelNamed (OperationAnswer m) = []
 channelNamed TimeRequest = []
 channelNamed (BaseArrival m) = m .channel ∷ []
+channelNamed (RingNotice m) = m .channel ∷ []
+channelNamed (AnswerReply m) = m .channel ∷ []
 channelNamed OperationRequest = []
 channelNamed (Call m) = m .channel ∷ []
 channelNamed (CallerNotice m) = m .channel ∷ []
+channelNamed (CallResult m) = m .channel ∷ []
 channelNamed (CaptureRequest m) = m .channel ∷ []
 channelNamed (CaptureReply m) = m .channel ∷ []
 channelNamed (CaptureState m) = m .channel ∷ []

@@ -1,27 +1,29 @@
--- 01, Line rules: what an accepted entry does to the set, and what it sends.
+-- 01, Line rules, and 02 §1: what an accepted entry does to the set, and what it sends.
 use Prim.Native.Nat.{ℕ}
 use mathlib.Core.List.{List, [], _∷_, _++_, map}
-use mathlib.Core.Bool.{cond}
+use mathlib.Core.Bool.{Bool, false, _&&_, cond}
 use lib.Dec.{eqb}
 use lib.ListN.{drop, set}
-use Rattle.numerals.specs.declared.digits.Digits.{Digits}
-use Rattle.numerals.specs.declared.digits.Digits.the-variants.{Value, Malformed}
-use Rattle.telegram.specs.Telegram.{num, readTelegram}
+use Rattle.telegram.specs.Telegram.{readTelegram}
 use Rattle.telegram.specs.declared.message.Number.{Number}
+use Rattle.telegram.specs.declared.message.RingAnswer.{RingAnswer}
 use Rattle.telegram.specs.declared.message.Message.{Message}
 use Rattle.telegram.specs.declared.message.Message.the-variants.{TimeRequest, OperationRequest}
 use Rattle.channel.specs.State.{only, firstDesks}
-use Rattle.line_rules.specs.Rules.{Step, happens}
+use Rattle.line_rules.specs.Rules.{Step, individual, isRinging, happens}
 use Rattle.line_rules.specs.Notices.{telegram}
+use Rattle.line_rules.specs.Turns.{toldOfCall}
+use Rattle.channel.specs.declared.state.Call.{Call}
+use Rattle.channel.specs.declared.state.Call.the-variants.{Closed, Open}
 use Rattle.channel.specs.declared.state.Channel.{Channel}
 use Rattle.channel.specs.declared.state.Event.{Event}
-use Rattle.channel.specs.declared.state.Event.the-variants.{Cut, PressOn, PressOff, MobileOn, MobileOff, Tick, EndTalk, EndCall}
+use Rattle.channel.specs.declared.state.Event.the-variants.{Cut, PressOn, PressOff, MobileOn, MobileOff, Ring, Cancel, RingAnswer as Answered, Tick, EndTalk, EndCall}
 use Rattle.channel.specs.declared.state.Send.{Send}
 use Rattle.set_state.specs.State.{newSet, ownOf, channelsOf, placeIn, channelAt, listenersOf, withChannels, timeTold, answered, withLink}
 use Rattle.set_rules.specs.Entries.{telegramIn, planIn}
 use Rattle.laws.specs.Table.{pick}
 use Rattle.set_rules.specs.Plan.{setOf}
-use Rattle.set_rules.specs.Refusals.{askedIn}
+use Rattle.set_rules.specs.Refusals.{askedIn, numberIn, calledPlace}
 use Rattle.set_rules.specs.Records.{Delivery, delivered}
 use Rattle.set_state.specs.declared.state.Desk.{Desk}
 use Rattle.set_state.specs.declared.state.LineSet.{LineSet}
@@ -29,7 +31,7 @@ use Rattle.set_state.specs.declared.state.Entry.{Entry}
 use Rattle.set_state.specs.declared.state.LinkRequest.{LinkRequest}
 use Rattle.set_state.specs.declared.state.LinkRequest.the-variants.{TellsTime, TellsState}
 use Rattle.set_state.specs.declared.state.Request.{Request}
-use Rattle.set_state.specs.declared.state.Request.the-variants.{OfLink, OnChannel, Foreign}
+use Rattle.set_state.specs.declared.state.Request.the-variants.{OfLink, OnChannel, AnswersRing, Foreign}
 
 -- the set after, what is sent, and the desks whose codes the records bear
 pub record Effect : Type 0 where
@@ -95,6 +97,34 @@ endSends ds n c = movedIn ds n EndTalk c .sends ++ movedIn ds n EndCall c .sends
 unfoldable pub onHandover : LineSet → Effect
 onHandover s = effect s newSet (sendsOf (s .desks) (endSends (s .desks) (s .size .desks)) (channelsOf s))
 
+-- ---- ring answers
+
+-- desk d is the one that a mobile rings on a channel
+abbrev pub isCalled : ℕ → Channel → Bool
+isCalled d c = isRinging c && toldOfCall d (c .call)
+
+-- the number of an open call, as digits
+abbrev pub callerOf : Call → ℕ
+callerOf Closed = 0
+callerOf (Open k d m b s) = s .digits
+
+-- 02 §1: "A 550419 with no ring on its channel, from another desk, or that doesn't match the notice in every body field both have, gets
+-- 550469 with 0." The notice had type 3, the mobile's number as source, and as destination the called desk's own.
+abbrev pub answersRing : ℕ → Number → RingAnswer → Channel → Bool
+answersRing d own m c =
+    isCalled d c
+    && eqb (m .kind) individual
+    && eqb (m .source .digits) (callerOf (c .call))
+    && eqb (m .destination .digits) (own .digits)
+
+-- Whether a telegram of desk d answers a ring. This is the one place where a number that the set keeps is compared; what an entry does
+-- goes by the answer (`Promises`, 4).
+abbrev pub answersIn : LineSet → ℕ → Request → Bool
+answersIn s d (OfLink q) = false
+answersIn s d (OnChannel ch n v) = false
+answersIn s d (AnswersRing m) = answersRing d (ownOf (s .desks) d) m (channelAt s (m .channel))
+answersIn s d Foreign = false
+
 -- ---- entries
 
 -- "Accepting a plan sends 550461 to each desk."
@@ -106,19 +136,16 @@ abbrev pub onLink : LineSet → ℕ → LinkRequest → Effect
 onLink s d TellsTime = timeTaken s d
 onLink s d (TellsState a) = answerTaken s d a
 
-abbrev pub onRequest : LineSet → ℕ → Request → Effect
-onRequest s d (OfLink q) = onLink s d q
-onRequest s d (OnChannel ch n v) = onChannel s ch v
-onRequest s d Foreign = effect s s []
+abbrev pub onRequest : Bool → LineSet → ℕ → Request → Effect
+onRequest matched s d (OfLink q) = onLink s d q
+onRequest matched s d (OnChannel ch n v) = onChannel s ch v
+onRequest matched s d (AnswersRing m) = onChannel s (m .channel) (Answered d matched)
+onRequest matched s d Foreign = effect s s []
 
-abbrev pub numberIn : Digits → Number
-numberIn (Value v) = num v
-numberIn Malformed = num 0
-
--- what an accepted entry does, by its kind
-abbrev pub ways : LineSet → List ℕ → Entry → List (ℕ × Effect)
-ways s e x =
-    (1, onRequest s (x .desk) (askedIn (x .desk) (readTelegram (telegramIn e))))
+-- what an accepted entry does, by its kind, and by whether it answers a ring
+abbrev pub ways : Bool → LineSet → List ℕ → Entry → List (ℕ × Effect)
+ways matched s e x =
+    (1, onRequest matched s (x .desk) (askedIn (x .desk) (readTelegram (telegramIn e))))
     ∷ (2, onChannel s (x .channel) (cond (eqb (x .on) 1) (PressOn (x .desk) (ownOf (s .desks) (x .desk))) PressOff))
     ∷ (3, onChannel s (x .channel) Cut)
     ∷ (4, onChannel s (x .channel) (MobileOn (x .base) (numberIn (x .number))))
@@ -126,7 +153,12 @@ ways s e x =
     ∷ (6, onTick s)
     ∷ (7, onPlan (planIn e))
     ∷ (8, onHandover s)
+    ∷ (9, onChannel s (x .channel) (Ring (calledPlace (s .desks) (s .size .desks) (x .called)) (x .base) (numberIn (x .number))))
+    ∷ (10, onChannel s (x .channel) Cancel)
     ∷ []
 
+unfoldable pub acceptedBy : Bool → LineSet → List ℕ → Entry → Effect
+acceptedBy matched s e x = pick (x .kind) (effect s s []) (ways matched s e x)
+
 unfoldable pub accepted : LineSet → List ℕ → Entry → Effect
-accepted s e x = pick (x .kind) (effect s s []) (ways s e x)
+accepted s e x = acceptedBy (answersIn s (x .desk) (askedIn (x .desk) (readTelegram (telegramIn e)))) s e x

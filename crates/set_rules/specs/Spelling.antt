@@ -51,3 +51,23 @@ answerEntry desk code = entryOf 1 (desk ∷ dv ((4, 18) ∷ (4, code) ∷ (6, 55
 -- the listing's entries before its fifth
 abbrev pub untilRunning : List (List ℕ)
 untilRunning = planEntry ∷ captureEntry 7 ∷ timeEntry 0 12 ∷ answerEntry 0 12 ∷ []
+
+-- both desks of the shared plan run
+abbrev pub bothRunning : List (List ℕ)
+bothRunning = sharedPlan ∷ timeEntry 0 12 ∷ timeEntry 1 13 ∷ answerEntry 0 12 ∷ answerEntry 1 13 ∷ []
+
+-- ---- 02 §1: a mobile at base 3 calls a desk on channel 7 by its number, and desk 0 of the listing
+
+abbrev pub callTo : ℕ → ℕ → List ℕ
+callTo called number = entryOf 9 (7 ∷ 3 ∷ digitsOf 8 number ++ digitsOf 8 called)
+
+abbrev pub callEntry : ℕ → List ℕ
+callEntry = callTo 120001
+
+-- a desk with a code answers, with a type, a source and a destination; and desk 0 as the notice to it asks, with a source
+abbrev pub ringAnswerOf : ℕ → ℕ → ℕ → ℕ → ℕ → List ℕ
+ringAnswerOf desk code kind source destination =
+    entryOf 1 (desk ∷ dv ((4, 38) ∷ (4, code) ∷ (6, 550419) ∷ (3, 7) ∷ (1, kind) ∷ (1, 8) ∷ (8, source) ∷ (1, 8) ∷ (8, destination) ∷ []))
+
+abbrev pub ringAnswerEntry : ℕ → List ℕ
+ringAnswerEntry source = ringAnswerOf 0 12 3 source 120001

@@ -1,5 +1,5 @@
--- Two theorems that ask much of a feed speak of something: isolation, of two feeds that differ in a mobile's number, and the marked
--- row of the ticks.
+-- Two theorems that ask much of a feed speak of something: isolation, of two feeds that differ in a mobile's number, talking or
+-- ringing, and the marked row of the ticks.
 use Prim.Native.Nat.{ℕ}
 use mathlib.Core.List.{List, [], _∷_, _++_, map}
 use mathlib.Core.Path.{_≡_}
@@ -10,22 +10,14 @@ use Rattle.channel.specs.declared.state.Channel.{Channel}
 use Rattle.channel.specs.declared.state.Party.the-variants.{By}
 use Rattle.set_state.specs.State.{newSet, noChannel}
 use Rattle.set_rules.specs.Feeds.{Outcome, Item, stepBy, run, after, Seen, views}
-use Rattle.set_rules.specs.Spelling.{entryOf, lent, sharedPlan, timeEntry, answerEntry, captureEntry}
-use Rattle.set_rules.specs.Promises.{Related}
+use Rattle.set_rules.specs.Spelling.{entryOf, lent, bothRunning, captureEntry, callEntry, ringAnswerEntry}
+use Rattle.set_rules.specs.Promises.{MayDiffer, Related}
 use Rattle.set_rules.specs.Marked.{ticksWith}
 use Rattle.set_rules.specs.Examples.{untilHeld, pressEntry}
 
 -- Two desks share channel 7, desk 0 holds it, and a mobile with a number keys up under it.
 abbrev pub sharedFeed : ℕ → List Item
-sharedFeed number =
-    lent sharedPlan
-    ∷ lent (timeEntry 0 12)
-    ∷ lent (timeEntry 1 13)
-    ∷ lent (answerEntry 0 12)
-    ∷ lent (answerEntry 1 13)
-    ∷ lent (captureEntry 7)
-    ∷ lent (entryOf 4 (7 ∷ 3 ∷ digitsOf 8 number))
-    ∷ []
+sharedFeed number = map lent (bothRunning ++ (captureEntry 7 ∷ entryOf 4 (7 ∷ 3 ∷ digitsOf 8 number) ∷ []))
 
 -- Two such feeds are related for desk 1 and are not the same. Desk 1 receives the 550651 of the capture, 34 bytes, and desk 0 does
 -- get the number (`Witness.witness`).
@@ -34,6 +26,26 @@ pub record Speaks : Type 0 where
   pub differ : sharedFeed 990007 ≡ sharedFeed 990008 → ⊥
   pub receives : map (λ (v : Seen). length (v .records)) (views 1 newSet (sharedFeed 990007)) ≡ 21 ∷ 0 ∷ 21 ∷ 0 ∷ 0 ∷ 34 ∷ 0 ∷ []
   pub learns : views 0 newSet (sharedFeed 990007) ≡ views 0 newSet (sharedFeed 990008) → ⊥
+
+-- ---- rings
+
+-- Two desks share channel 7, a mobile with a number rings desk 0, and desk 0 answers with a number as the source.
+abbrev pub rungFeed : ℕ → ℕ → List Item
+rungFeed number source = map lent (bothRunning ++ (callEntry number ∷ ringAnswerEntry source ∷ []))
+
+-- Two such feeds, answered with the number that rang, are related for desk 1 and are not the same. Desk 1 receives the 550651 of the
+-- answer, 34 bytes, and desk 0 does get the number (`Witness.rings-witness`).
+pub record SpeaksOfRings : Type 0 where
+  pub related : Related 1 newSet newSet (rungFeed 990007 990007) (rungFeed 990008 990008)
+  pub differ : rungFeed 990007 990007 ≡ rungFeed 990008 990008 → ⊥
+  pub receives : map (λ (v : Seen). length (v .records)) (views 1 newSet (rungFeed 990007 990007)) ≡ 21 ∷ 0 ∷ 21 ∷ 0 ∷ 0 ∷ 0 ∷ 34 ∷ []
+  pub learns : views 0 newSet (rungFeed 990007 990007) ≡ views 0 newSet (rungFeed 990008 990008) → ⊥
+
+-- The condition on the called desk's answers is needed: two feeds that differ in the ringing number alone, and may (`may`), with the same
+-- answer, which matches in the first. Desk 1 is told of the capture in the first feed only (`Witness.agreement-needed`).
+pub record AgreementNeeded : Type 0 where
+  pub may : MayDiffer 1 (after newSet (map lent bothRunning)) (callEntry 990007) (callEntry 990008)
+  pub told : views 1 newSet (rungFeed 990007 990007) ≡ views 1 newSet (rungFeed 990008 990007) → ⊥
 
 -- ---- the ticks
 

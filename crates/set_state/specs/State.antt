@@ -73,6 +73,11 @@ runningFrom d m (k ∷ ks) = cond (isRunning k && isIn d m) (only d) 0 + running
 abbrev pub listenersOf : List Desk → ℕ → Channel → ℕ
 listenersOf ds n c = runningFrom 0 (c .entitled) (take n ds)
 
+-- the place of the desk with a number; the number of desks, if none has it
+unfoldable pub deskPlace : ℕ → List Desk → ℕ
+deskPlace number [] = 0
+deskPlace number (k ∷ ks) = cond (eqb (k .number .digits) number) 0 (1 + deskPlace number ks)
+
 -- ---- a set with one part changed
 
 abbrev pub withDesks : List Desk → LineSet → LineSet

@@ -7,6 +7,7 @@ pub use bytes::byte;
 pub use bytes::wide;
 pub use bytes::word;
 pub use desks::desk_at;
+pub use desks::desk_place;
 pub use state::Answer;
 pub use state::Desk;
 pub use state::Entry;

@@ -3,6 +3,7 @@ use channel::Channel;
 use channel::Event;
 use numerals::Digits;
 use telegram::Number;
+use telegram::RingAnswer;
 ghost use mathlib.Core.Path.{_≡_};
 ghost use Rattle.set_state.specs.State.{newLink, timeTold, answered, noDesk, newSet};
 
@@ -87,7 +88,8 @@ impl LineSet {
 }
 
 // What an entry's bytes ask for: its kind, and what its payload has. What a kind does not have is 0, and a telegram and a
-// plan stay in the bytes. A refusal other than 0 is 1, 2 or 3, and then all else is 0.
+// plan stay in the bytes. A refusal other than 0 is 1, 2 or 3, and then all else is 0. `number` is a mobile's, `called` that of the
+// desk that it calls.
 pub struct Entry {
     pub refusal: u8,
     pub kind: u8,
@@ -96,6 +98,7 @@ pub struct Entry {
     pub on: u8,
     pub base: u8,
     pub number: Digits,
+    pub called: Digits,
 }
 
 // What a desk says of its link.
@@ -115,6 +118,8 @@ pub enum Request {
         number: Number,
         event: Event,
     },
+    // The answer to a ring, as the telegram has it.
+    AnswersRing(RingAnswer),
     // A telegram that no desk sends.
     Foreign,
 }
