@@ -2,6 +2,7 @@
 -- Assumes nothing.
 use Prim.Native.Nat.{ℕ}
 use mathlib.Core.List.{List, _++_}
+use mathlib.Core.Bool.{Bool}
 use mathlib.Core.Logic.{inl, inr}
 use mathlib.Core.Path.{_≡_, refl, sym, ap, _∙_}
 use lib.Dec.{eqb, leb, ltb}
@@ -11,7 +12,7 @@ use Rattle.laws.proofs.Tests.{either}
 use Rattle.telegram.specs.Telegram.{num}
 use Rattle.telegram.specs.declared.message.Number.{Number}
 use Rattle.channel.specs.State.{only, isHeld, heldBy, isPresent}
-use Rattle.line_rules.specs.Rules.{step, happens, capture, captureAt, cut, release, pressOn, pressOff, mobileOn, mobileOff, tick, tickIdle, tickQuiet, tickRelease, endTalk, endCall, isPressed, openedBy, openingSends, callSends, endOf, pressOffSends, pressCall, mobileCall, mobileOffSends, freedSends, mobileRecipients}
+use Rattle.line_rules.specs.Rules.{step, sentIf, happens, capture, captureAt, cut, release, pressOn, pressOff, mobileOn, mobileOff, ring, unanswered, answered, ringAnswer, tick, tickRing, tickIdle, tickQuiet, tickRelease, endTalk, endCall, isPressed, isRinging, openedBy, openingSends, callSends, endOf, pressOffSends, pressCall, mobileCall, mobileOffSends, ringOffSends, freedSends, mobileRecipients}
 use Rattle.channel.specs.declared.state.Party.{Party}
 use Rattle.channel.specs.declared.state.Party.the-variants.{Nobody, By}
 use Rattle.channel.specs.declared.state.Call.{Call}
@@ -21,8 +22,8 @@ use Rattle.channel.specs.declared.state.Arrival.the-variants.{Absent, Present}
 use Rattle.channel.specs.declared.state.Channel.{Channel}
 use Rattle.channel.specs.declared.state.Send.{Send}
 use Rattle.channel.specs.declared.state.Event.{Event}
-use Rattle.channel.specs.declared.state.Event.the-variants.{Capture, Release, Cut, PressOn, PressOff, MobileOn, MobileOff, Tick, EndTalk, EndCall}
-use Rattle.channel.specs.declared.state.Notice.the-variants.{PressAnswer, Incoming, BaseArrival, Call as CallNotice, PressNotice, CallerNotice, CaptureReply, CaptureState}
+use Rattle.channel.specs.declared.state.Event.the-variants.{Capture, Release, Cut, PressOn, PressOff, MobileOn, MobileOff, Ring, Cancel, RingAnswer, Tick, EndTalk, EndCall}
+use Rattle.channel.specs.declared.state.Notice.the-variants.{PressAnswer, Incoming, BaseArrival, Call as CallNotice, PressNotice, CallerNotice, CaptureReply, CaptureState, RingNotice, AnswerReply, CallResult}
 use Rattle.line_rules.specs.Invariant.{Timed, Fits}
 use Rattle.line_rules.specs.Among.{Around, Listens, AllListen, ForDesk, Told, HolderListens, CallTold, ArrivalTold, Among, FitsAmong, SendTold, StepAmong}
 use Rattle.line_rules.specs.Promises.{FreeIsAmong, SaysForDesk}
@@ -40,6 +41,9 @@ says-for-desk w c m ch d (PressNotice k o) t i = (inr (inl refl), tt)
 says-for-desk w c m ch d (CallerNotice k b n o) t i = (t .learn d i, tt)
 says-for-desk w c m ch d (CaptureReply r) t i = tt
 says-for-desk w c m ch d (CaptureState h s) t i = (either (ForDesk w d) (eqb h d) (w .own d) (num 0) (inr (inl refl)) (inl refl), tt)
+says-for-desk w c m ch d (RingNotice n) t i = (t .learn d i, (inr (inl refl), tt))
+says-for-desk w c m ch d (AnswerReply r) t i = tt
+says-for-desk w c m ch d (CallResult r) t i = (inr (inl refl), tt)
 
 module _ (w : Around) (e : ℕ) (c : Channel) (listen : AllListen w c e) (timed : Timed c) (ok : Among w c) where
   abbrev SendsTold : List Send → Type 0
@@ -98,6 +102,10 @@ module _ (w : Around) (e : ℕ) (c : Channel) (listen : AllListen w c e) (timed 
   off-told Absent t = tt
   off-told (Present k m b n) t = (t .listen, (t, (t, tt)))
 
+  ring-off-told : (k : Call) → CallTold w c k → SendsTold (ringOffSends k)
+  ring-off-told Closed t = tt
+  ring-off-told (Open k d m b s) t = (t .listen, (t .listen, tt))
+
   freed-told : SendsTold (freedSends e c)
   freed-told = (listen, tt)
 
@@ -112,7 +120,10 @@ module _ (w : Around) (e : ℕ) (c : Channel) (listen : AllListen w c e) (timed 
   -- ---- the rules
 
   captureAt-among : (h : Party) (d : ℕ) → Listens w c d → StepAmong w c (captureAt h e d c)
-  captureAt-among Nobody d l = left _ _ refl l (ok .call-told) (ok .arrival-told) (alone d l, (listen, tt))
+  captureAt-among Nobody d l =
+      either (StepAmong w c) (isRinging c) _ _
+      (plain-among _ (alone d l, tt))
+      (left _ _ refl l (ok .call-told) (ok .arrival-told) (alone d l, (listen, tt)))
   captureAt-among (By h) d l = plain-among _ (alone d l, tt)
 
   capture-among : (d : ℕ) → Listens w c d → StepAmong w c (capture e d c)
@@ -162,6 +173,30 @@ module _ (w : Around) (e : ℕ) (c : Channel) (listen : AllListen w c e) (timed 
   unfolding mobileOff
   mobileOff-among = left _ _ refl (ok .holder-listens) (ok .call-told) tt (off-told (c .arrival) (ok .arrival-told))
 
+  ring-among : (d b : ℕ) (n : Number) → Listens w c d → w .mobile n → StepAmong w c (ring d b n c)
+  unfolding ring
+  ring-among d b n l g =
+      let t : Told w c (only d) n = record { listen = alone d l; learn = λ d′ i. inr (inr g) } in
+      left _ _ refl (ok .holder-listens) t (ok .arrival-told) (t .listen, (t, (t, tt)))
+
+  unanswered-among : (r : ℕ) → StepAmong w c (unanswered r c)
+  unfolding unanswered
+  unanswered-among r =
+      left _ _ refl (ok .holder-listens) tt (ok .arrival-told)
+      (each-append (SendTold w c) (ringOffSends (c .call)) _ (ring-off-told (c .call) (ok .call-told)) (call-sends-told 0 r (c .call) (ok .call-told)))
+
+  ringAnswer-among : (d : ℕ) (matched : Bool) → Listens w c d → StepAmong w c (ringAnswer e d matched c)
+  unfolding ringAnswer answered
+  ringAnswer-among d matched l =
+      either (StepAmong w c) matched _ _
+      (left _ _ refl l (ok .call-told) (ok .arrival-told) (alone d l, (alone d l, (listen, tt))))
+      (plain-among _ (alone d l, tt))
+
+  tickRing-among : StepAmong w c (tickRing c)
+  unfolding tickRing
+  tickRing-among =
+      either (StepAmong w c) (leb (c .ring) 1) _ _ (unanswered-among 5) (left _ _ refl (ok .holder-listens) (ok .call-told) (ok .arrival-told) tt)
+
   tickQuiet-among : StepAmong w c (tickQuiet c)
   unfolding tickQuiet
   tickQuiet-among =
@@ -180,9 +215,10 @@ module _ (w : Around) (e : ℕ) (c : Channel) (listen : AllListen w c e) (timed 
   unfolding tick tickIdle
   tick-among =
       let P = StepAmong w c in
-      either P (isPressed c) _ _ (plain-among _ tt)
+      either P (isRinging c) _ _ tickRing-among
+      (either P (isPressed c) _ _ (plain-among _ tt)
       (either P (isPresent (c .arrival)) _ _ (plain-among _ tt)
-      (either P (ltb 0 (c .quiet)) _ _ tickQuiet-among (either P (isHeld (c .holder)) _ _ tickRelease-among (plain-among _ tt))))
+      (either P (ltb 0 (c .quiet)) _ _ tickQuiet-among (either P (isHeld (c .holder)) _ _ tickRelease-among (plain-among _ tt)))))
 
   endTalk-among : StepAmong w c (endTalk c)
   unfolding endTalk
@@ -194,7 +230,9 @@ module _ (w : Around) (e : ℕ) (c : Channel) (listen : AllListen w c e) (timed 
   unfolding endCall
   endCall-among =
       left _ _ refl tt tt tt
-      (each-append (SendTold w c) (endOf 2 (c .call)) _ (call-sends-told 0 2 (c .call) (ok .call-told)) (either SendsTold (isHeld (c .holder)) _ _ freed-told tt))
+      (each-append (SendTold w c) (sentIf (isRinging c) (ringOffSends (c .call))) _
+      (either SendsTold (isRinging c) _ _ (ring-off-told (c .call) (ok .call-told)) tt)
+      (each-append (SendTold w c) (endOf 2 (c .call)) _ (call-sends-told 0 2 (c .call) (ok .call-told)) (either SendsTold (isHeld (c .holder)) _ _ freed-told tt)))
 
   pub happens-among : (v : Event) → Fits v c → FitsAmong w v c → StepAmong w c (happens v e c)
   unfolding happens
@@ -205,6 +243,9 @@ module _ (w : Around) (e : ℕ) (c : Channel) (listen : AllListen w c e) (timed 
   happens-among PressOff h g = pressOff-among
   happens-among (MobileOn b n) h g = mobileOn-among b n g
   happens-among MobileOff h g = mobileOff-among
+  happens-among (Ring d b n) h g = ring-among d b n (g .0) (g .1)
+  happens-among Cancel h g = unanswered-among 2
+  happens-among (RingAnswer d matched) h g = ringAnswer-among d matched g
   happens-among Tick h g = tick-among
   happens-among EndTalk h g = endTalk-among
   happens-among EndCall h g = endCall-among

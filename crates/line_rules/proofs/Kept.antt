@@ -1,11 +1,10 @@
 -- The promises of `specs/Promises.antt` that other crates cite, kept.
 -- Assumes nothing.
 use mathlib.Core.Path.{refl}
-use mathlib.Core.Bool.{false≢true}
-use native.Mathlib.Omega.{arith}
-use Rattle.line_rules.specs.Promises.{FreeIsOk, StaysOk, SaysInRange, FreeIsAmong, StaysAmong, SaysForDesk, OnlyOther, HideTwice, PresentHide, HappensHide, NumberHidden, HoldingLasts, KeepsPlace, GoesByTurns, HandoverEnds}
+use Rattle.line_rules.specs.Promises.{FreeIsOk, StaysOk, SaysInRange, FreeIsAmong, StaysAmong, SaysForDesk, OnlyOther, HideTwice, PresentHide, OpenHide, HappensHide, NumberHidden, RingHidden, HoldingLasts, KeepsPlace, GoesByTurns, HandoverEnds}
 use Rattle.line_rules.proofs.Ranges as ranges
-use Rattle.line_rules.proofs.Timers.{happens-timed}
+use Rattle.line_rules.proofs.Timers.{free-timed, happens-timed}
+use Rattle.line_rules.proofs.Rings.{clash, happens-rung}
 use Rattle.line_rules.proofs.Masks as masks
 use Rattle.line_rules.proofs.Among as among
 use Rattle.line_rules.proofs.Veil as left
@@ -16,13 +15,17 @@ use Rattle.line_rules.proofs.Turns as turns
 pub free-is-ok : FreeIsOk
 free-is-ok code entitled h = record {
   in-range = record { code-ok = h; call-ok = tt; arrival-ok = tt };
-  timed = record { quiet-runs = refl; release-runs = refl; quiet-most = omega arith; release-most = omega arith; presser-holds = λ p. absurd (false≢true p); pressed-open = λ p. absurd (false≢true p) };
+  timed = free-timed code entitled;
+  rung = clash refl;
 }
 
 pub stays-ok : StaysOk
 stays-ok v e c h ok =
     let r = ranges.happens-ranged e c (ok .in-range) v h in
-    record { next-ok = record { in-range = r .next-ok; timed = happens-timed e c (ok .timed) v h }; sends-ok = r .sends-ok }
+    record {
+      next-ok = record { in-range = r .next-ok; timed = happens-timed e c (ok .timed) (ok .rung) v h; rung = happens-rung e c (ok .timed) (ok .rung) v h };
+      sends-ok = r .sends-ok;
+    }
 
 pub says-in-range : SaysInRange
 says-in-range = ranges.says-in-range
@@ -45,11 +48,17 @@ hide-twice = left.hide-twice
 pub present-hide : PresentHide
 present-hide = left.present-hide
 
+pub open-hide : OpenHide
+open-hide = left.open-hide
+
 pub happens-hide : HappensHide
 happens-hide = left.happens-hide
 
 pub number-hidden : NumberHidden
 number-hidden = left.number-hidden
+
+pub ring-hidden : RingHidden
+ring-hidden = left.ring-hidden
 
 pub holding-lasts : HoldingLasts
 holding-lasts = holding.holding-lasts

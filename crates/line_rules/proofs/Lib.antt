@@ -2,6 +2,7 @@ mod Veil
 mod Traps
 mod Ranges
 mod Timers
+mod Rings
 mod Masks
 mod Among
 mod Holding

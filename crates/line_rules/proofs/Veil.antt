@@ -6,8 +6,8 @@ use mathlib.Core.Bool.{Bool, true, false}
 use mathlib.Core.Path.{_≡_, refl, ap}
 use Rattle.laws.proofs.Tests.{cond-of}
 use Rattle.telegram.specs.declared.message.Number.{Number}
-use Rattle.channel.specs.State.{isIn, isPresent}
-use Rattle.line_rules.specs.Rules.{Step, step, isOpen, openedBy, openingSends, endOf, kindOf, pressOffSends, mobileOffSends, captureAt, capture, cut, release, pressOn, pressOff, mobileRecipients, mobileCall, mobileOn, mobileOff, tickQuiet, tickRelease, tickIdle, tick, endTalk, endCall, happens}
+use Rattle.channel.specs.State.{only, isIn, isPresent}
+use Rattle.line_rules.specs.Rules.{Step, step, isOpen, openedBy, openingSends, endOf, kindOf, pressOffSends, mobileOffSends, ringOffSends, captureAt, capture, cut, release, pressOn, pressOff, mobileRecipients, mobileCall, mobileOn, mobileOff, ring, unanswered, answered, ringAnswer, tickQuiet, tickRelease, tickIdle, tickRing, tick, endTalk, endCall, happens}
 use Rattle.line_rules.specs.Veil.{veil, hideCall, hideArrival, hide, hideSend, hideSends, hideStep}
 use Rattle.channel.specs.declared.state.Party.{Party}
 use Rattle.channel.specs.declared.state.Party.the-variants.{Nobody, By}
@@ -17,7 +17,7 @@ use Rattle.channel.specs.declared.state.Arrival.{Arrival}
 use Rattle.channel.specs.declared.state.Arrival.the-variants.{Absent, Present}
 use Rattle.channel.specs.declared.state.Channel.{Channel}
 use Rattle.channel.specs.declared.state.Event.{Event}
-use Rattle.channel.specs.declared.state.Event.the-variants.{Capture, Release, Cut, PressOn, PressOff, MobileOn, MobileOff, Tick, EndTalk, EndCall}
+use Rattle.channel.specs.declared.state.Event.the-variants.{Capture, Release, Cut, PressOn, PressOff, MobileOn, MobileOff, Ring, Cancel, RingAnswer, Tick, EndTalk, EndCall}
 use Rattle.channel.specs.declared.state.Send.{Send}
 
 veil-twice : (t : Bool) (n : Number) → veil t (veil t n) ≡ veil t n
@@ -39,7 +39,7 @@ module _ (B : ℕ) where
   pub hide-twice : (c : Channel) → hide B (hide B c) ≡ hide B c
   hide-twice c = simp (call-twice, arrival-twice) refl
 
-  open-hide : (k : Call) → isOpen (hideCall B k) ≡ isOpen k
+  pub open-hide : (k : Call) → isOpen (hideCall B k) ≡ isOpen k
   open-hide Closed = refl
   open-hide (Open k d m b s) = refl
 
@@ -71,13 +71,17 @@ module _ (B : ℕ) where
   off-hide Absent = refl
   off-hide (Present k m b n) = simp veil-twice refl
 
+  ring-off-hide : (k : Call) → ringOffSends (hideCall B k) ≡ ringOffSends k
+  ring-off-hide Closed = refl
+  ring-off-hide (Open k d m b s) = refl
+
   -- ---- the rules, one by one
 
   still-hide : (c : Channel) (ss : List Send) → hideStep B (step (hide B c) ss) ≡ hideStep B (step c ss)
   still-hide c ss = simp (call-twice, arrival-twice) refl
 
   captureAt-hide : (h : Party) (e : ℕ) (d : ℕ) (c : Channel) → hideStep B (captureAt h e d (hide B c)) ≡ hideStep B (captureAt h e d c)
-  captureAt-hide Nobody e d c = simp (call-twice, arrival-twice) refl
+  captureAt-hide Nobody e d c = simp (cond-of (hideStep B), call-twice, arrival-twice) refl
   captureAt-hide (By h) e d c = simp (call-twice, arrival-twice) refl
 
   capture-hide : (e : ℕ) (d : ℕ) (c : Channel) → hideStep B (capture e d (hide B c)) ≡ hideStep B (capture e d c)
@@ -104,6 +108,22 @@ module _ (B : ℕ) where
   unfolding mobileOff
   mobileOff-hide c = simp (open-hide, off-hide, call-twice) refl
 
+  ring-hide : (d b : ℕ) (n : Number) (c : Channel) → hideStep B (ring d b n (hide B c)) ≡ hideStep B (ring d b n c)
+  unfolding ring
+  ring-hide d b n c = simp arrival-twice refl
+
+  unanswered-hide : (r : ℕ) (c : Channel) → hideStep B (unanswered r (hide B c)) ≡ hideStep B (unanswered r c)
+  unfolding unanswered
+  unanswered-hide r c = simp (map-append (hideSend B), ring-off-hide, end-hide, arrival-twice) refl
+
+  answered-hide : (e d : ℕ) (c : Channel) → hideStep B (answered e d (hide B c)) ≡ hideStep B (answered e d c)
+  unfolding answered
+  answered-hide e d c = simp (call-twice, arrival-twice) refl
+
+  ringAnswer-hide : (e d : ℕ) (matched : Bool) (c : Channel) → hideStep B (ringAnswer e d matched (hide B c)) ≡ hideStep B (ringAnswer e d matched c)
+  unfolding ringAnswer
+  ringAnswer-hide e d matched c = simp (cond-of (hideStep B), answered-hide e d c, still-hide c) refl
+
   tickQuiet-hide : (c : Channel) → hideStep B (tickQuiet (hide B c)) ≡ hideStep B (tickQuiet c)
   unfolding tickQuiet
   tickQuiet-hide c = simp (cond-of (hideStep B), end-hide, call-twice, arrival-twice) refl
@@ -116,9 +136,13 @@ module _ (B : ℕ) where
   unfolding tickIdle
   tickIdle-hide e c = simp (cond-of (hideStep B), tickQuiet-hide c, tickRelease-hide e c, still-hide c []) refl
 
+  tickRing-hide : (c : Channel) → hideStep B (tickRing (hide B c)) ≡ hideStep B (tickRing c)
+  unfolding tickRing
+  tickRing-hide c = simp (cond-of (hideStep B), unanswered-hide 5 c, call-twice, arrival-twice) refl
+
   tick-hide : (e : ℕ) (c : Channel) → hideStep B (tick e (hide B c)) ≡ hideStep B (tick e c)
   unfolding tick
-  tick-hide e c = simp (cond-of (hideStep B), present-hide, tickIdle-hide e c, still-hide c []) refl
+  tick-hide e c = simp (cond-of (hideStep B), present-hide, tickRing-hide c, tickIdle-hide e c, still-hide c []) refl
 
   endTalk-hide : (c : Channel) → hideStep B (endTalk (hide B c)) ≡ hideStep B (endTalk c)
   unfolding endTalk
@@ -126,7 +150,7 @@ module _ (B : ℕ) where
 
   endCall-hide : (e : ℕ) (c : Channel) → hideStep B (endCall e (hide B c)) ≡ hideStep B (endCall e c)
   unfolding endCall
-  endCall-hide e c = simp (map-append (hideSend B), cond-of (hideSends B), end-hide) refl
+  endCall-hide e c = simp (map-append (hideSend B), cond-of (hideSends B), ring-off-hide, end-hide) refl
 
   release-hide : (e : ℕ) (d : ℕ) (c : Channel) → hideStep B (release e d (hide B c)) ≡ hideStep B (release e d c)
   unfolding release
@@ -146,6 +170,9 @@ module _ (B : ℕ) where
   happens-hide PressOff e c = pressOff-hide c
   happens-hide (MobileOn b n) e c = mobileOn-hide e b n c
   happens-hide MobileOff e c = mobileOff-hide c
+  happens-hide (Ring d b n) e c = ring-hide d b n c
+  happens-hide Cancel e c = unanswered-hide 2 c
+  happens-hide (RingAnswer d matched) e c = ringAnswer-hide e d matched c
   happens-hide Tick e c = tick-hide e c
   happens-hide EndTalk e c = endTalk-hide c
   happens-hide EndCall e c = endCall-hide e c
@@ -170,3 +197,8 @@ module _ (B : ℕ) where
       let o = opened-number (c .call) m b n n′ h in
       let s = opening-number (c .call) m b n n′ h in
       simp (map-append (hideSend B)) (simp (o, s, h) refl)
+
+  -- a ring goes to the called desk alone
+  pub ring-hidden : (d b : ℕ) (n n′ : Number) (c : Channel) → isIn B (only d) ≡ false → hideStep B (ring d b n c) ≡ hideStep B (ring d b n′ c)
+  unfolding ring veil
+  ring-hidden d b n n′ c h = simp h refl
