@@ -13,12 +13,8 @@ use lib.Seq.{getD-take}
 use borrow.Author.Tests.{ltb-true, ltb-false, eqb-true, eqb-false, eq-eqb, ne-eqb}
 use Rattle.laws.specs.Each.{Each}
 use Rattle.laws.proofs.Each.{each-map}
-use Rattle.laws.proofs.Tests.{by-test, either}
+use Rattle.laws.proofs.Tests.{by-test}
 use Rattle.telegram.specs.declared.message.Number.{Number}
-use Rattle.telegram.specs.declared.message.Message.{Message}
-use Rattle.telegram.specs.declared.message.Message.the-variants.{TimeNotice, OperationAnswer, TimeRequest, BaseArrival, OperationRequest, Call as CallMade, CallerNotice, CaptureRequest, CaptureReply, CaptureState}
-use Rattle.telegram.specs.declared.message.Reading.{Reading}
-use Rattle.telegram.specs.declared.message.Reading.the-variants.{Telegram, Refused}
 use Rattle.channel.specs.State.{isIn, only}
 use Rattle.channel.specs.declared.state.Party.{Party}
 use Rattle.channel.specs.declared.state.Party.the-variants.{Nobody, By}
@@ -27,10 +23,8 @@ use Rattle.channel.specs.declared.state.Call.the-variants.{Closed, Open}
 use Rattle.channel.specs.declared.state.Arrival.{Arrival}
 use Rattle.channel.specs.declared.state.Arrival.the-variants.{Absent, Present}
 use Rattle.channel.specs.declared.state.Channel.{Channel}
-use Rattle.channel.specs.declared.state.Event.{Event}
-use Rattle.channel.specs.declared.state.Event.the-variants.{Capture, Release}
 use Rattle.channel.specs.declared.state.Notice.{Notice}
-use Rattle.channel.specs.declared.state.Notice.the-variants.{PressAnswer, Incoming, BaseArrival as Arrived, Call as CallNotice, PressNotice, CallerNotice as Talks, CaptureReply as Reply, CaptureState as State}
+use Rattle.channel.specs.declared.state.Notice.the-variants.{PressAnswer, Incoming, BaseArrival as Arrived, Call as CallNotice, PressNotice, CallerNotice as Talks, CaptureReply as Reply, CaptureState as State, RingNotice, AnswerReply, CallResult}
 use Rattle.channel.specs.declared.state.Send.{Send}
 use Rattle.line_rules.specs.Notices.{Content, contentFor}
 use Rattle.line_rules.specs.Among.{Around, numbersIn, AllListen, ForDesk, Told, HolderListens, CallTold, ArrivalTold, Among, NoticeTold, SendTold}
@@ -39,9 +33,6 @@ use Rattle.set_state.specs.State.{noDesk, noChannel, ownOf, placeOf, channelAt,
 use Rattle.set_state.specs.declared.state.Link.{Link}
 use Rattle.set_state.specs.declared.state.Desk.{Desk}
 use Rattle.set_state.specs.declared.state.LineSet.{LineSet}
-use Rattle.set_state.specs.declared.state.Request.{Request}
-use Rattle.set_state.specs.declared.state.Request.the-variants.{OfLink, OnChannel, Foreign}
-use Rattle.set_rules.specs.Refusals.{askedBy, askedIn}
 use Rattle.set_rules.specs.Records.{Delivery, delivered}
 use Rattle.set_rules.specs.SetRules.{Effect}
 use Rattle.set_rules.specs.Letters.{letterFor}
@@ -165,6 +156,9 @@ told-listen w c m (PressNotice a o) k = k
 told-listen w c m (Talks a b n o) k = k .listen
 told-listen w c m (Reply r) k = k
 told-listen w c m (State h t) k = k
+told-listen w c m (RingNotice n) k = k .listen
+told-listen w c m (AnswerReply r) k = k
+told-listen w c m (CallResult r) k = k
 
 module _ (s : LineSet) (M : Number → Type 0) where
   abbrev w : Around
@@ -182,6 +176,9 @@ module _ (s : LineSet) (M : Number → Type 0) where
   notice-right d ch (Talks a b n o) h k = (h .0 .0, (refl, ((h, tt), k)))
   notice-right d ch (Reply r) h k = (h .0 .0, (refl, ((h, tt), k)))
   notice-right d ch (State hd t) h k = (h .0 .0, (refl, ((h, tt), k)))
+  notice-right d ch (RingNotice n) h k = (h .0 .0, (refl, ((h, tt), k)))
+  notice-right d ch (AnswerReply r) h k = (h .0 .0, (refl, ((h, tt), k)))
+  notice-right d ch (CallResult r) h k = (h .0 .0, (refl, ((h, tt), k)))
 
   -- what a channel sends, where its code finds it
   pub sends-heard : (c : Channel) → channelAt s (c .code) ≡ c → (ss : List Send) → Each (SendTold w c) ss → Each (Heard s M (s .desks)) (delivered (s .desks) (c .code) ss)
@@ -194,27 +191,3 @@ module _ (s : LineSet) (M : Number → Type 0) where
       notice-right d (c .code) (x .notice) (l .0, ap (λ (b : Channel). isIn d (b .entitled)) p ∙ l .1)
       (says-for-desk w c (x .recipients) (c .code) d (x .notice) (k .0) i) in
       (one, sends-heard c p ss (k .1))
-
--- ---- what a telegram asks on a channel is a capture or a release by its desk
-
-abbrev pub OnEvent : (Event → Type 0) → Request → Type 0
-OnEvent P (OfLink q) = Unit {0}
-OnEvent P (OnChannel ch n v) = P v
-OnEvent P Foreign = Unit {0}
-
-module _ (P : Event → Type 0) (d : ℕ) (captures : P (Capture d)) (releases : P (Release d)) where
-  asked-by : (m : Message) → OnEvent P (askedBy d m)
-  asked-by (TimeNotice m) = tt
-  asked-by (OperationAnswer m) = tt
-  asked-by TimeRequest = tt
-  asked-by (BaseArrival m) = tt
-  asked-by OperationRequest = tt
-  asked-by (CallMade m) = tt
-  asked-by (CallerNotice m) = tt
-  asked-by (CaptureRequest m) = either P (eqb (m .order) 1) (Capture d) (Release d) captures releases
-  asked-by (CaptureReply m) = tt
-  asked-by (CaptureState m) = tt
-
-  pub asked-in : (r : Reading) → OnEvent P (askedIn d r)
-  asked-in (Telegram k m) = asked-by m
-  asked-in (Refused n k i) = tt

@@ -19,13 +19,13 @@ use Rattle.channel.specs.State.{isIn}
 use Rattle.line_rules.specs.Notices.{telegram, contact, contentFor}
 use Rattle.channel.specs.declared.state.Event.{Event}
 use Rattle.channel.specs.declared.state.Notice.{Notice}
-use Rattle.channel.specs.declared.state.Notice.the-variants.{PressAnswer, Incoming, BaseArrival, Call, PressNotice, CallerNotice, CaptureReply, CaptureState}
+use Rattle.channel.specs.declared.state.Notice.the-variants.{PressAnswer, Incoming, BaseArrival, Call, PressNotice, CallerNotice, CaptureReply, CaptureState, RingNotice, AnswerReply, CallResult}
 use Rattle.set_state.specs.State.{newSet, noDesk, ownOf}
 use Rattle.set_rules.specs.Entries.{readEntry, telegramIn}
 use Rattle.laws.specs.Table.{pick}
 use Rattle.set_rules.specs.Refusals.{askedIn, refusalOf}
 use Rattle.set_rules.specs.Records.{Delivery, delivered, recordFor, recordSize, toEach, recordsOf, spaceOf}
-use Rattle.set_rules.specs.SetRules.{Effect, onChannel, sendsOf, onTick, onHandover, onRequest, ways, accepted}
+use Rattle.set_rules.specs.SetRules.{Effect, onChannel, sendsOf, onTick, onHandover, answersIn, onRequest, ways, acceptedBy, accepted}
 use Rattle.set_rules.specs.Feeds.{Outcome, Item, Gives, outcomeOf, stepOf, stepBy, run, after}
 use Rattle.set_rules.specs.RecordLaws.{EvenSized, AllEven, RecordIsLong, SpaceIsLength, SpaceInTurn, EvenSends, EvenAll, withoutLowest, OneMoreHalf, LowestBit, GivesAlike, LeftAsWas, NoRoom}
 use Rattle.set_rules.specs.Promises.{Refused, Counted, Written, HandoverMakesNew, Renewed}
@@ -35,7 +35,7 @@ use Rattle.set_state.specs.declared.state.LineSet.{LineSet}
 use Rattle.set_state.specs.declared.state.Entry.{Entry}
 use Rattle.set_state.specs.declared.state.LinkRequest.the-variants.{TellsTime, TellsState}
 use Rattle.set_state.specs.declared.state.Request.{Request}
-use Rattle.set_state.specs.declared.state.Request.the-variants.{OfLink, OnChannel, Foreign}
+use Rattle.set_state.specs.declared.state.Request.the-variants.{OfLink, OnChannel, AnswersRing, Foreign}
 use Rattle.laws.proofs.Table.{pick-each}
 
 -- ---- refused answers
@@ -106,6 +106,9 @@ even-notice ds ch (PressNotice k o) d = refl
 even-notice ds ch (CallerNotice k b n o) d = refl
 even-notice ds ch (CaptureReply r) d = refl
 even-notice ds ch (CaptureState h s) d = refl
+even-notice ds ch (RingNotice n) d = refl
+even-notice ds ch (AnswerReply r) d = refl
+even-notice ds ch (CallResult r) d = refl
 
 pub even-sends : EvenSends
 unfolding delivered
@@ -121,17 +124,19 @@ pub even-on : (s : LineSet) (ch : ℕ) (v : Event) → AllEven (onChannel s ch v
 unfolding onChannel
 even-on s ch v = even-sends (s .desks) _ _
 
-even-request : (s : LineSet) (d : ℕ) (q : Request) → AllEven (onRequest s d q .sent)
-even-request s d (OfLink TellsTime) = (λ k. refl, tt)
-even-request s d (OfLink (TellsState a)) = tt
-even-request s d (OnChannel ch n v) = even-on s ch v
-even-request s d Foreign = tt
+even-request : (t : Bool) (s : LineSet) (d : ℕ) (q : Request) → AllEven (onRequest t s d q .sent)
+even-request t s d (OfLink TellsTime) = (λ k. refl, tt)
+even-request t s d (OfLink (TellsState a)) = tt
+even-request t s d (OnChannel ch n v) = even-on s ch v
+even-request t s d (AnswersRing m) = even-on s (m .channel) _
+even-request t s d Foreign = tt
 
 pub even-accepted : (s : LineSet) (e : List ℕ) (x : Entry) → AllEven (accepted s e x .sent)
-unfolding accepted onTick onHandover
+unfolding acceptedBy accepted onTick onHandover
 even-accepted s e x =
-    pick-each (λ f. AllEven (f .sent)) (x .kind) _ (ways s e x) tt
-    ((λ k. even-request s (x .desk) (askedIn (x .desk) (readTelegram (telegramIn e))))
+    let q = askedIn (x .desk) (readTelegram (telegramIn e)) in
+    pick-each (λ f. AllEven (f .sent)) (x .kind) _ (ways (answersIn s (x .desk) q) s e x) tt
+    ((λ k. even-request _ s (x .desk) q)
     ▹ (λ k. even-on s (x .channel) _)
     ▹ (λ k. even-on s (x .channel) _)
     ▹ (λ k. even-on s (x .channel) _)
@@ -139,6 +144,8 @@ even-accepted s e x =
     ▹ (λ k. even-all (s .desks) _ _)
     ▹ (λ k. (λ d. refl, tt))
     ▹ (λ k. even-all (s .desks) _ _)
+    ▹ (λ k. even-on s (x .channel) _)
+    ▹ (λ k. even-on s (x .channel) _)
     ▹ tt)
 
 pub counted : Counted
@@ -193,7 +200,7 @@ no-room s b f h g = rw (lt-leb (spaceOf (f .sent)) (length b) h) g
 -- ---- a handover
 
 handed-over : (s : LineSet) (e : List ℕ) (x : Entry) → x .kind ≡ 8 → accepted s e x .after ≡ newSet
-unfolding accepted pick onHandover
+unfolding acceptedBy accepted pick onHandover
 handed-over s e x h = rw h
 
 -- an accepted entry: no row of the table holds, and the set after and the bytes written are the rule's

@@ -2,7 +2,7 @@
 -- Assumes nothing.
 use Prim.Native.Nat.{ℕ, zero, suc, _≤_}
 use mathlib.Core.List.{List, [], _∷_, _++_, map}
-use mathlib.Core.Bool.{Bool, true, false, _&&_, not, cond, false≢true, true≢false}
+use mathlib.Core.Bool.{Bool, true, false, _&&_, false≢true, true≢false}
 use mathlib.Core.Logic.{_⊎_, inl, inr}
 use mathlib.Core.Path.{_≡_, refl, sym, ap, _∙_}
 use native.Mathlib.Omega.{arith}
@@ -12,60 +12,37 @@ use borrow.Author.Tests.{eqb-true, eq-eqb, ltb-true}
 use Rattle.laws.proofs.Each.{_▹_}
 use Rattle.laws.proofs.Table.{pick-each}
 use Rattle.telegram.specs.Telegram.{readTelegram}
-use Rattle.telegram.specs.declared.message.Message.{Message}
-use Rattle.telegram.specs.declared.message.Message.the-variants.{TimeNotice, OperationAnswer, TimeRequest, BaseArrival, OperationRequest, Call, CallerNotice, CaptureRequest, CaptureReply, CaptureState}
 use Rattle.telegram.specs.declared.message.Reading.{Reading}
-use Rattle.telegram.specs.declared.message.Reading.the-variants.{Telegram, Refused}
-use Rattle.channel.specs.State.{isHeld, heldBy, isPresent}
+use Rattle.channel.specs.State.{isHeld}
 use Rattle.channel.specs.declared.state.Party.the-variants.{By}
-use Rattle.channel.specs.declared.state.Arrival.{Arrival}
-use Rattle.channel.specs.declared.state.Arrival.the-variants.{Absent, Present}
 use Rattle.channel.specs.declared.state.Channel.{Channel}
 use Rattle.channel.specs.declared.state.Event.{Event}
-use Rattle.channel.specs.declared.state.Event.the-variants.{Capture, Release, Cut, PressOn, PressOff, MobileOff, Tick}
-use Rattle.line_rules.specs.Rules.{happens, tick, tickIdle, isPressed}
+use Rattle.channel.specs.declared.state.Event.the-variants.{Capture, Release, Cut, MobileOff, Cancel, Tick}
+use Rattle.line_rules.specs.Rules.{happens, tick, tickIdle}
+use Rattle.line_rules.specs.Invariant.{Fits}
 use Rattle.line_rules.specs.Promises.{Ends as Ended}
 use Rattle.line_rules.proofs.Kept.{keeps-place, holding-lasts}
 use Rattle.set_state.specs.State.{newSet, noChannel, ownOf, placeOf, placeIn, channelsOf, channelAt, listenersOf}
 use Rattle.set_rules.specs.Entries.{readEntry, telegramIn}
 use Rattle.set_rules.specs.Plan.{setOf}
-use Rattle.set_rules.specs.Refusals.{askedBy, askedIn, refusalOf}
-use Rattle.set_rules.specs.SetRules.{onChannel, ticked, onTick, onHandover, onRequest, ways, accepted}
+use Rattle.set_rules.specs.Refusals.{askedIn, refusalOf}
+use Rattle.set_rules.specs.SetRules.{onChannel, ticked, onTick, onHandover, answersIn, onRequest, ways, acceptedBy, accepted}
 use Rattle.set_rules.specs.Feeds.{Item, stepBy, after}
+use Rattle.set_rules.specs.Invariant.{SetOk}
 use Rattle.set_rules.specs.Promises.{Ends, released, cut, timed-out, handed-over, HoldingEnds, AcceptedFinds}
 use Rattle.set_rules.proofs.Answers.{accepted-after, step-keeps, feed-keeps}
-use Rattle.set_rules.proofs.Rows.{no-row}
-use Rattle.set_rules.proofs.Readable.{holds, held-by, always-ok, at-ok}
+use Rattle.set_rules.proofs.Rows.{no-row, row-finds}
+use Rattle.set_rules.proofs.Asked.{OnEvent, asked-in, answer-rings}
+use Rattle.set_rules.proofs.Readable.{pressOf, entry-fits, asked-ok, always-ok, at-ok}
 use Rattle.set_state.specs.declared.state.Desk.{Desk}
 use Rattle.set_state.specs.declared.state.LineSet.{LineSet}
 use Rattle.set_state.specs.declared.state.Entry.{Entry}
 use Rattle.set_state.specs.declared.state.LinkRequest.the-variants.{TellsTime, TellsState}
 use Rattle.set_state.specs.declared.state.Request.{Request}
-use Rattle.set_state.specs.declared.state.Request.the-variants.{OfLink, OnChannel, Foreign}
-
--- ---- what an accepted entry finds: rows 14 and 15
-
-absent : (a : Arrival) → isPresent a ≡ false → a ≡ Absent
-absent Absent h = refl
-absent (Present k m b n) h = absurd (true≢false h)
-
-not-on : (t : Bool) → eqb 1 (cond t 1 0) ≡ false → t ≡ false
-not-on true h = absurd (true≢false h)
-not-on false h = refl
+use Rattle.set_state.specs.declared.state.Request.the-variants.{OfLink, OnChannel, AnswersRing, Foreign}
 
 pub finds : AcceptedFinds
-finds s i z =
-    let x = readEntry (i .entry) in
-    let c = channelAt s (x .channel) in
-    let r = no-row s (i .entry) x (accepted-after s i z .0) in
-    let held : not (heldBy (x .desk) (c .holder)) ≡ false → c .holder ≡ By (x .desk) =
-    λ h. held-by (x .desk) (c .holder) (holds (heldBy (x .desk) (c .holder)) h) in
-    record {
-      press-held = λ k. held (rw k at (r .row14-fails));
-      cut-held = λ k. held (rw k at (r .row14-fails));
-      press-new = λ k o. not-on (isPressed c) (rw (k, o) at (r .row15-fails));
-      mobile-new = λ k. absent (c .arrival) (rw k at (r .row15-fails));
-    }
+finds s i z = row-finds s (i .entry) (readEntry (i .entry)) (accepted-after s i z .0)
 
 -- ---- the channel of a code, after an event and after a tick
 
@@ -132,18 +109,20 @@ found-ticked ds n ch (c ∷ cs) = go (eqb (c .code) ch) refl (found-ticked ds n 
 abbrev Planless : LineSet → Type 0
 Planless s = s .planned ≡ false → s .size .channels ≡ 0
 
-request-planless : (s : LineSet) (d : ℕ) (q : Request) → Planless s → Planless (onRequest s d q .after)
+request-planless : (t : Bool) (s : LineSet) (d : ℕ) (q : Request) → Planless s → Planless (onRequest t s d q .after)
 unfolding onChannel
-request-planless s d (OfLink TellsTime) h = h
-request-planless s d (OfLink (TellsState a)) h = h
-request-planless s d (OnChannel ch n v) h = h
-request-planless s d Foreign h = h
+request-planless t s d (OfLink TellsTime) h = h
+request-planless t s d (OfLink (TellsState a)) h = h
+request-planless t s d (OnChannel ch n v) h = h
+request-planless t s d (AnswersRing m) h = h
+request-planless t s d Foreign h = h
 
 accepted-planless : (s : LineSet) (e : List ℕ) (x : Entry) → Planless s → Planless (accepted s e x .after)
-unfolding accepted onChannel onTick onHandover setOf
+unfolding acceptedBy accepted onChannel onTick onHandover setOf
 accepted-planless s e x h =
-    pick-each (λ f. Planless (f .after)) (x .kind) _ (ways s e x) h
-    ((λ k. request-planless s (x .desk) (askedIn (x .desk) (readTelegram (telegramIn e))) h)
+    let q = askedIn (x .desk) (readTelegram (telegramIn e)) in
+    pick-each (λ f. Planless (f .after)) (x .kind) _ (ways (answersIn s (x .desk) q) s e x) h
+    ((λ k. request-planless _ s (x .desk) q h)
     ▹ (λ k. h)
     ▹ (λ k. h)
     ▹ (λ k. h)
@@ -151,6 +130,8 @@ accepted-planless s e x h =
     ▹ (λ k. h)
     ▹ (λ k p. absurd (true≢false p))
     ▹ (λ k p. refl)
+    ▹ (λ k. h)
+    ▹ (λ k. h)
     ▹ tt)
 
 always-planless : (f : List Item) → Planless (after newSet f)
@@ -162,19 +143,19 @@ none-held s ch d h held = false≢true (ap isHeld (rw h at held))
 
 -- ---- holdings
 
-module _ (s : LineSet) (ch d : ℕ) (held : channelAt s ch .holder ≡ By d) (E : Type 0) where
+module _ (s : LineSet) (ok : SetOk s) (ch d : ℕ) (held : channelAt s ch .holder ≡ By d) (E : Type 0) where
   -- desk d holds in a set after, or what ends its holding has come
   abbrev Lasts : LineSet → Type 0
   Lasts t = (channelAt t ch .holder ≡ By d) ⊎ E
 
   -- an event on the channel of a code k
-  on-lasts : (k : ℕ) (v : Event) → (k ≡ ch → Ended v (channelAt s ch) d → E) → Lasts (onChannel s k v .after)
+  on-lasts : (k : ℕ) (v : Event) → Fits v (channelAt s k) → (k ≡ ch → Ended v (channelAt s ch) d → E) → Lasts (onChannel s k v .after)
   unfolding onChannel
-  on-lasts k v ends =
+  on-lasts k v fits ends =
       let e = listenersOf (s .desks) (s .size .desks) (channelAt s k) in
       let c = happens v e (channelAt s k) .next in
       rw (take-set (s .size .channels) (s .channels) (placeIn s k) c)
-      (go c (λ h. holding-lasts v e (channelAt s k) d h) (found-after ch k (channelsOf s) c (keeps-place v e (channelAt s k) .0)))
+      (go c (λ h. holding-lasts v e (channelAt s k) d fits (at-ok s ok k) h) (found-after ch k (channelsOf s) c (keeps-place v e (channelAt s k) .0)))
     where
       here : (c b : Channel) → k ≡ ch → b ≡ c → (c .holder ≡ By d) ⊎ Ended v (channelAt s k) d → (b .holder ≡ By d) ⊎ E
       here c b p q (inl h) = inl (rw q h)
@@ -191,37 +172,15 @@ module _ (s : LineSet) (ch d : ℕ) (held : channelAt s ch .holder ≡ By d) (E 
       let f = ticked (s .desks) (s .size .desks) in
       let e = listenersOf (s .desks) (s .size .desks) (channelAt s ch) in
       rw (take-changed f (s .size .channels) (s .channels), found-ticked (s .desks) (s .size .desks) ch (channelsOf s))
-      (go (holding-lasts Tick e (channelAt s ch) d held))
+      (go (holding-lasts Tick e (channelAt s ch) d tt (at-ok s ok ch) held))
     where
       go : {A : Type 0} → A ⊎ (channelAt s ch .release ≤ 1) → A ⊎ E
       go (inl a) = inl a
       go (inr b) = inr (ends b)
 
 -- what a desk asks of a channel, it asks for itself
-abbrev ForItself : ℕ → Request → Type 0
-ForItself d (OfLink q) = Unit {0}
-ForItself d (OnChannel ch n v) = (v ≡ Capture d) ⊎ (v ≡ Release d)
-ForItself d Foreign = Unit {0}
-
-for-itself : (d : ℕ) (r : Reading) → ForItself d (askedIn d r)
-for-itself d (Refused n k i) = tt
-for-itself d (Telegram k m) = go m
-  where
-    order : (t : Bool) → (cond t (Capture d) (Release d) ≡ Capture d) ⊎ (cond t (Capture d) (Release d) ≡ Release d)
-    order true = inl refl
-    order false = inr refl
-
-    go : (m : Message) → ForItself d (askedBy d m)
-    go (TimeNotice m) = tt
-    go (OperationAnswer m) = tt
-    go TimeRequest = tt
-    go (BaseArrival m) = tt
-    go OperationRequest = tt
-    go (Call m) = tt
-    go (CallerNotice m) = tt
-    go (CaptureRequest m) = order (eqb (m .order) 1)
-    go (CaptureReply m) = tt
-    go (CaptureState m) = tt
+abbrev ForItself : ℕ → Event → Type 0
+ForItself d v = (v ≡ Capture d) ⊎ (v ≡ Release d)
 
 -- ---- what an accepted entry does to a holding
 
@@ -240,25 +199,34 @@ module _ (f : List Item) (i : Item) (ch d : ℕ) (held : channelAt (after newSet
   abbrev r : Reading
   r = readTelegram (telegramIn (i .entry))
 
+  abbrev ok : SetOk s
+  ok = always-ok f
+
   abbrev Over : Type 0
   Over = Ends s (i .entry) d ch
 
   abbrev Stays : LineSet → Type 0
-  Stays = Lasts s ch d held Over
+  Stays = Lasts s ok ch d held Over
 
-  request-lasts : x .kind ≡ 1 → (q : Request) → askedIn (x .desk) r ≡ q → ForItself (x .desk) q → Stays (onRequest s (x .desk) q .after)
+  on : (k : ℕ) (v : Event) → Fits v (channelAt s k) → (k ≡ ch → Ended v (channelAt s ch) d → Over) → Stays (onChannel s k v .after)
+  on = on-lasts s ok ch d held Over
+
+  request-lasts : x .kind ≡ 1 → (q : Request) → askedIn (x .desk) r ≡ q → OnEvent (ForItself (x .desk)) q
+      → Stays (onRequest (answersIn s (x .desk) q) s (x .desk) q .after)
   request-lasts k (OfLink TellsTime) p o = inl held
   request-lasts k (OfLink (TellsState a)) p o = inl held
-  request-lasts k (OnChannel ch′ n v) p (inl o) = on-lasts s ch d held Over ch′ v (λ q a. absurd (rw o at a))
+  request-lasts k (OnChannel ch′ n v) p (inl o) = on ch′ v (rw o tt) (λ q a. absurd (rw o at a))
   request-lasts k (OnChannel ch′ n v) p (inr o) =
-      on-lasts s ch d held Over ch′ v
+      on ch′ v (rw o tt)
       (λ q a. let own : x .desk ≡ d = rw o at a in released n k own (rw (sym own, p, q, o)))
+  request-lasts k (AnswersRing m) p o =
+      on (m .channel) _ (answer-rings (x .desk) (ownOf (s .desks) (x .desk)) m (channelAt s (m .channel))) (λ q a. absurd a)
   request-lasts k Foreign p o = inl held
 
   -- a press frees nothing
-  press-lasts : (t : Bool) → Stays (onChannel s (x .channel) (cond t (PressOn (x .desk) (ownOf (s .desks) (x .desk))) PressOff) .after)
-  press-lasts true = on-lasts s ch d held Over (x .channel) _ (λ q a. absurd a)
-  press-lasts false = on-lasts s ch d held Over (x .channel) _ (λ q a. absurd a)
+  press-lasts : (t : Bool) → Fits (pressOf s x t) (channelAt s (x .channel)) → Stays (onChannel s (x .channel) (pressOf s x t) .after)
+  press-lasts true f = on (x .channel) _ f (λ q a. absurd a)
+  press-lasts false f = on (x .channel) _ f (λ q a. absurd a)
 
   -- a cut is the holder's
   own-cut : channelAt s (x .channel) .holder ≡ By (x .desk) → x .channel ≡ ch → x .desk ≡ d
@@ -267,7 +235,7 @@ module _ (f : List Item) (i : Item) (ch d : ℕ) (held : channelAt (after newSet
   -- the release timer of a held channel runs
   last-second : channelAt s ch .release ≤ 1 → channelAt s ch .release ≡ 1
   last-second l =
-      let runs = at-ok s (always-ok f) ch .timed .release-runs ∙ ap isHeld held in
+      let runs = at-ok s ok ch .timed .release-runs ∙ ap isHeld held in
       omega (arith, l, ltb-true 0 (channelAt s ch .release) runs)
 
   -- there is a plan, so another is refused: row 5
@@ -277,18 +245,23 @@ module _ (f : List Item) (i : Item) (ch d : ℕ) (held : channelAt (after newSet
       none-held s ch d (always-planless f p) held
 
   accepted-lasts : stepBy s i .refusal ≡ 0 → Stays (accepted s (i .entry) x .after)
-  unfolding accepted
+  unfolding acceptedBy accepted
   accepted-lasts z =
-      let on = on-lasts s ch d held Over (x .channel) in
-      pick-each (λ w. Stays (w .after)) (x .kind) _ (ways s (i .entry) x) (inl held)
-      ((λ k. request-lasts k (askedIn (x .desk) r) refl (for-itself (x .desk) r))
-      ▹ (λ k. press-lasts (eqb (x .on) 1))
-      ▹ (λ k. on Cut (λ q a. cut k (own-cut (finds s i z .cut-held k) q) q))
-      ▹ (λ k. on _ (λ q a. absurd a))
-      ▹ (λ k. on MobileOff (λ q a. absurd a))
-      ▹ (λ k. tick-lasts s ch d held Over (λ l. timed-out k (last-second l)))
-      ▹ (λ k. absurd (no-plan (accepted-after s i z .0) k))
+      let taken = accepted-after s i z .0 in
+      let fits = entry-fits s ok (i .entry) x (asked-ok (i .entry)) taken in
+      let asked = askedIn (x .desk) r in
+      let here = on (x .channel) in
+      pick-each (λ w. Stays (w .after)) (x .kind) _ (ways (answersIn s (x .desk) asked) s (i .entry) x) (inl held)
+      ((λ k. request-lasts k asked refl (asked-in (ForItself (x .desk)) (x .desk) (inl refl) (inr refl) r))
+      ▹ (λ k. press-lasts (eqb (x .on) 1) (fits .press-fits k))
+      ▹ (λ k. here Cut (fits .cut-fits k) (λ q a. cut k (own-cut (finds s i z .cut-held k) q) q))
+      ▹ (λ k. here _ (fits .on-fits k) (λ q a. absurd a))
+      ▹ (λ k. here MobileOff (fits .off-fits k) (λ q a. absurd a))
+      ▹ (λ k. tick-lasts s ok ch d held Over (λ l. timed-out k (last-second l)))
+      ▹ (λ k. absurd (no-plan taken k))
       ▹ (λ k. inr (handed-over k))
+      ▹ (λ k. here _ (fits .ring-fits k) (λ q a. absurd a))
+      ▹ (λ k. here Cancel (fits .cancel-fits k) (λ q a. absurd a))
       ▹ tt)
 
 pub holding-ends : HoldingEnds

@@ -1,8 +1,10 @@
 mod Answers
 mod Received
+mod Hidden
 mod Isolation
 mod Witness
 mod Rows
+mod Asked
 mod Readable
 mod Shape
 mod Among

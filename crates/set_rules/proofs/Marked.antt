@@ -14,7 +14,7 @@ use Rattle.set_rules.specs.Entries.{readEntry}
 use Rattle.set_rules.specs.Plan.{desksOk, desksIn, hasNumber, distinct, channelsOk, channelsIn, planOk, setOf}
 use Rattle.set_rules.specs.Refusals.{firstOf, refusalOf}
 use Rattle.set_rules.specs.Records.{delivered, toEach, recordsOf, spaceOf}
-use Rattle.set_rules.specs.SetRules.{onChannel, accepted}
+use Rattle.set_rules.specs.SetRules.{onChannel, acceptedBy, accepted}
 use Rattle.set_rules.specs.Feeds.{outcomeOf, stepOf, after}
 use Rattle.set_rules.specs.Spelling.{spelled}
 use Rattle.set_rules.specs.Marked.{Case, reads, answers, ticks, Holds, cases, Marked, AnswersIn}
@@ -32,7 +32,7 @@ holds (answers es e room n) p = λ b h. subst (AnswersIn es e n) (sym h) p
 holds (ticks end release) p = p
 
 pub marked : Marked
-unfolding cases spelled onesIn digitsOf allDigits valueFrom bodyOk valuesIn bytesOf headerOk readTelegram telegramOf isIn capture happens placeOf runningFrom readEntry desksOk desksIn hasNumber distinct channelsOk channelsIn planOk setOf firstOf refusalOf delivered toEach recordsOf spaceOf onChannel pick accepted outcomeOf stepOf after
+unfolding cases spelled onesIn digitsOf allDigits valueFrom bodyOk valuesIn bytesOf headerOk readTelegram telegramOf isIn capture happens placeOf runningFrom readEntry desksOk desksIn hasNumber distinct channelsOk channelsIn planOk setOf firstOf refusalOf delivered toEach recordsOf spaceOf onChannel pick acceptedBy accepted outcomeOf stepOf after
 marked =
     each-map Computes Holds holds cases
     (refl ▹ refl ▹ refl ▹ refl ▹ refl ▹ refl ▹ refl ▹ refl ▹ refl ▹ refl ▹ ends-at ▹ tt)

@@ -2,13 +2,13 @@
 -- Assumes nothing.
 use Prim.Native.Nat.{ℕ, zero, suc, _+_, _-_, _*_, _^_, _≤_, _<_}
 use mathlib.Core.List.{List, [], _∷_, _++_, map, map-append}
-use mathlib.Core.Bool.{Bool, true, false, _&&_, not, cond, false≢true}
+use mathlib.Core.Bool.{Bool, true, false, _&&_, cond, false≢true}
 use mathlib.Core.Path.{_≡_, refl, sym, ap, _∙_}
 use native.Mathlib.Omega.{arith}
 use native.Mathlib.Nat.{pow-le-pow-right}
 use lib.Dec.{eqb, leb}
 use lib.ListN.{length, length-take, take, drop, getD, replicate}
-use borrow.Author.Tests.{leb-true, le-leb, eqb-true, eqb-false}
+use borrow.Author.Tests.{leb-true, le-leb, eqb-false, not-false}
 use Rattle.laws.specs.Each.{Each}
 use Rattle.laws.proofs.Each.{_▹_, each-at, each-set, each-take, each-drop, each-append, each-same}
 use Rattle.laws.proofs.Tests.{both, by-test}
@@ -17,27 +17,24 @@ use Rattle.fields.specs.Fields.{allIn, between}
 use Rattle.numerals.specs.declared.digits.Digits.the-variants.{Value, Malformed}
 use Rattle.telegram.specs.Telegram.{num, inRange, readTelegram, telegramOf}
 use Rattle.telegram.specs.declared.message.Message.{Message}
-use Rattle.telegram.specs.declared.message.Message.the-variants.{TimeNotice, OperationAnswer, TimeRequest, BaseArrival, OperationRequest, Call, CallerNotice, CaptureRequest, CaptureReply, CaptureState}
-use Rattle.telegram.specs.declared.message.Reading.{Reading}
-use Rattle.telegram.specs.declared.message.Reading.the-variants.{Telegram, Refused}
+use Rattle.telegram.specs.declared.message.Message.the-variants.{TimeRequest, OperationRequest}
+use Rattle.telegram.specs.declared.message.Reading.the-variants.{Telegram}
 use Rattle.numerals.proofs.Kept.{value-below}
 use Rattle.telegram.proofs.Kept.{reads-back}
-use Rattle.channel.specs.State.{only, firstDesks, heldBy, isIn}
-use Rattle.channel.specs.declared.state.Party.{Party}
-use Rattle.channel.specs.declared.state.Party.the-variants.{Nobody, By}
+use Rattle.channel.specs.State.{only, firstDesks, isIn, isHeld}
 use Rattle.line_rules.specs.Rules.{happens, isPressed}
 use Rattle.line_rules.specs.Notices.{Content, telegram, contact, contentFor}
 use Rattle.channel.specs.declared.state.Channel.{Channel}
 use Rattle.channel.specs.declared.state.Event.{Event}
-use Rattle.channel.specs.declared.state.Event.the-variants.{Capture, Release, Cut, PressOn, PressOff, MobileOff, Tick, EndTalk, EndCall}
+use Rattle.channel.specs.declared.state.Event.the-variants.{Cut, PressOn, PressOff, MobileOn, MobileOff, Ring, Cancel, Tick, EndTalk, EndCall}
 use Rattle.channel.specs.declared.state.Send.{Send}
 use Rattle.set_state.specs.State.{newSet, noDesk, noChannel, ownOf, listenersOf, channelsOf, placeIn, channelAt, timeTold, answered, withLink}
 use Rattle.set_state.specs.Bytes.{byte, word}
 use Rattle.set_rules.specs.Entries.{readEntry, measured, bad, payload, payloadOk, sizeOk, telegramIn, planIn}
 use Rattle.set_rules.specs.Plan.{deskOk, desksOk, desksIn, channelsOk, channelsIn, deskCount, desksPart, channelCount, channelsPart, distinct, planOk, setOf}
-use Rattle.set_rules.specs.Refusals.{askedBy, askedIn, refusalOf}
+use Rattle.set_rules.specs.Refusals.{askedIn, numberIn, calledPlace, refusalOf}
 use Rattle.set_rules.specs.Records.{Delivery, delivered, recordFor}
-use Rattle.set_rules.specs.SetRules.{Effect, telegramTo, sendsOf, onChannel, ticked, tickSends, endSends, onTick, onHandover, onPlan, onRequest, ways, timeTaken, answerTaken, numberIn, accepted}
+use Rattle.set_rules.specs.SetRules.{Effect, telegramTo, sendsOf, onChannel, ticked, tickSends, endSends, onTick, onHandover, onPlan, answersIn, onRequest, ways, timeTaken, answerTaken, acceptedBy, accepted}
 use Rattle.set_rules.specs.Feeds.{after}
 use Rattle.line_rules.specs.Invariant.{NumberOk, ChannelOk, Fits, SendOk, SendsOk, ContentOk}
 use Rattle.line_rules.proofs.Kept.{free-is-ok, stays-ok, says-in-range}
@@ -50,16 +47,12 @@ use Rattle.set_state.specs.declared.state.LineSet.{LineSet}
 use Rattle.set_state.specs.declared.state.Entry.{Entry}
 use Rattle.set_state.specs.declared.state.LinkRequest.the-variants.{TellsTime, TellsState}
 use Rattle.set_state.specs.declared.state.Request.{Request}
-use Rattle.set_state.specs.declared.state.Request.the-variants.{OfLink, OnChannel, Foreign}
+use Rattle.set_state.specs.declared.state.Request.the-variants.{OfLink, OnChannel, AnswersRing, Foreign}
 use Rattle.laws.proofs.Table.{pick-each}
 use Rattle.set_rules.proofs.Answers.{written, accepted-done, feed-keeps}
 use Rattle.set_rules.proofs.Received.{toEachOne, eachOf, cut-records}
-use Rattle.set_rules.proofs.Rows.{no-row}
-
--- a test that does not fail
-pub holds : (t : Bool) → not t ≡ false → t ≡ true
-holds true h = refl
-holds false h = absurd (false≢true (sym h))
+use Rattle.set_rules.proofs.Rows.{no-row, row-finds}
+use Rattle.set_rules.proofs.Asked.{OnEvent, asked-in, answer-rings}
 
 -- ---- what fills the arrays
 
@@ -110,30 +103,8 @@ plain-reads ds o to m h = (λ d m′ e. content-reads (getD ds d noDesk .code) (
 
 -- ---- what telegrams ask fits every channel
 
-abbrev EventFits : Request → Channel → Type 0
-EventFits (OfLink q) c = Unit {0}
-EventFits (OnChannel ch n v) c = Fits v c
-EventFits Foreign c = Unit {0}
-
-order-fits : (t : Bool) (d : ℕ) (c : Channel) → Fits (cond t (Capture d) (Release d)) c
-order-fits true d c = tt
-order-fits false d c = tt
-
-asked-fits : (d : ℕ) (m : Message) (c : Channel) → EventFits (askedBy d m) c
-asked-fits d (TimeNotice m) c = tt
-asked-fits d (OperationAnswer m) c = tt
-asked-fits d TimeRequest c = tt
-asked-fits d (BaseArrival m) c = tt
-asked-fits d OperationRequest c = tt
-asked-fits d (Call m) c = tt
-asked-fits d (CallerNotice m) c = tt
-asked-fits d (CaptureRequest m) c = order-fits (eqb (m .order) 1) d c
-asked-fits d (CaptureReply m) c = tt
-asked-fits d (CaptureState m) c = tt
-
-reading-fits : (d : ℕ) (r : Reading) (c : Channel) → EventFits (askedIn d r) c
-reading-fits d (Telegram k m) c = asked-fits d m c
-reading-fits d (Refused n k i) c = tt
+abbrev FitsAll : Event → Type 0
+FitsAll v = (c : Channel) → Fits v c
 
 -- ---- effects
 
@@ -204,10 +175,11 @@ module _ (s : LineSet) (ok : SetOk s) where
   answer-ok : (d a : ℕ) → EffectOk (answerTaken s d a)
   answer-ok d a = record { set-ok = link-ok d (answered a); sent-ok = tt }
 
-  request-ok : (d : ℕ) (q : Request) → ((c : Channel) → EventFits q c) → EffectOk (onRequest s d q)
+  request-ok : (d : ℕ) (q : Request) → OnEvent FitsAll q → EffectOk (onRequest (answersIn s d q) s d q)
   request-ok d (OfLink TellsTime) h = time-ok d
   request-ok d (OfLink (TellsState a)) h = answer-ok d a
   request-ok d (OnChannel ch n v) h = on-ok ch v (h (channelAt s ch))
+  request-ok d (AnswersRing m) h = on-ok (m .channel) _ (answer-rings d (ownOf (s .desks) d) m (channelAt s (m .channel)))
   request-ok d Foreign h = record { set-ok = ok; sent-ok = tt }
 
 -- ---- a plan that keeps its rules
@@ -279,7 +251,9 @@ payload-number k e =
     (number-either (eqb k 2) _ _ none-ok
     (number-either (eqb k 3) _ _ none-ok
     (number-either (eqb k 4) _ _ (number-in (take 8 (drop 6 e)) (eight-taken (drop 6 e)))
-    (number-either (eqb k 5) _ _ none-ok none-ok))))
+    (number-either (eqb k 5) _ _ none-ok
+    (number-either (eqb k 9) _ _ (number-in (take 8 (drop 6 e)) (eight-taken (drop 6 e)))
+    (number-either (eqb k 10) _ _ none-ok none-ok))))))
 
 pub asked-ok : (e : List ℕ) → AskedOk (readEntry e)
 unfolding readEntry
@@ -300,40 +274,61 @@ asked-ok e = go (measured e) (eqb (byte e 2) 1) (payloadOk (byte e 3) e) refl
 
 -- an accepted plan keeps the rules of a plan: row 6
 pub plan-kept : (s : LineSet) (e : List ℕ) (x : Entry) → refusalOf s e x ≡ 0 → x .kind ≡ 7 → planOk (planIn e) ≡ true
-plan-kept s e x z k = holds (planOk (planIn e)) (rw k at (no-row s e x z .row6-fails))
+plan-kept s e x z k = not-false (planOk (planIn e)) (rw k at (no-row s e x z .row6-fails))
 
--- an accepted press is the holder's, and off only while on: rows 14 and 15
-pub held-by : (d : ℕ) (h : Party) → heldBy d h ≡ true → h ≡ By d
-held-by d Nobody e = absurd (false≢true e)
-held-by d (By h) e = ap By (eqb-true h d e)
-
+-- what an accepted entry of a kind does fits the channel that it names
 abbrev pub pressOf : LineSet → Entry → Bool → Event
 pressOf s x t = cond t (PressOn (x .desk) (ownOf (s .desks) (x .desk))) PressOff
 
-pub press-fits : (s : LineSet) → SetOk s → (e : List ℕ) (x : Entry) → x .on ≤ 1 → refusalOf s e x ≡ 0 → x .kind ≡ 2 → Fits (pressOf s x (eqb (x .on) 1)) (channelAt s (x .channel))
-press-fits s ok e x l z k =
-    let r = no-row s e x z in
-    go (channelAt s (x .channel)) (rw k at (r .row14-fails)) (rw k at (r .row15-fails)) (eqb (x .on) 1) refl
+abbrev pub ringOf : LineSet → Entry → Event
+ringOf s x = Ring (calledPlace (s .desks) (s .size .desks) (x .called)) (x .base) (numberIn (x .number))
+
+pub record EntryFits (s : LineSet) (x : Entry) : Type 0 where
+  pub press-fits : x .kind ≡ 2 → Fits (pressOf s x (eqb (x .on) 1)) (channelAt s (x .channel))
+  pub cut-fits : x .kind ≡ 3 → Fits Cut (channelAt s (x .channel))
+  pub on-fits : x .kind ≡ 4 → Fits (MobileOn (x .base) (numberIn (x .number))) (channelAt s (x .channel))
+  pub off-fits : x .kind ≡ 5 → Fits MobileOff (channelAt s (x .channel))
+  pub ring-fits : x .kind ≡ 9 → Fits (ringOf s x) (channelAt s (x .channel))
+  pub cancel-fits : x .kind ≡ 10 → Fits Cancel (channelAt s (x .channel))
+
+pub entry-fits : (s : LineSet) → SetOk s → (e : List ℕ) (x : Entry) → AskedOk x → refusalOf s e x ≡ 0 → EntryFits s x
+entry-fits s ok e x a z =
+    let f = row-finds s e x z in
+    record {
+      press-fits = λ k. press k (eqb (x .on) 1) refl;
+      cut-fits = λ k. ap isHeld (f .cut-held k);
+      on-fits = λ k. (a .base-ok, a .number-ok, f .mobile-silent k);
+      off-fits = λ k. not-false _ (rw k at (no-row s e x z .row15-fails));
+      ring-fits = λ k. (a .base-ok, a .number-ok, f .call-idle k);
+      cancel-fits = f .cancel-rings;
+    }
   where
-    go : (c : Channel) → not (heldBy (x .desk) (c .holder)) ≡ false → eqb (x .on) (cond (isPressed c) 1 0) ≡ false
-        → (t : Bool) → eqb (x .on) 1 ≡ t → Fits (pressOf s x t) c
-    go c h n true o = (own-ok s ok (x .desk), held-by (x .desk) (c .holder) (holds (heldBy (x .desk) (c .holder)) h))
-    go c h n false o = by-test (isPressed c) (λ p. p) (λ p. let off : x .on ≡ 0 = omega (arith, eqb-false (x .on) 1 o) in absurd (false≢true (sym (rw (p, off) at n))))
+    -- a press off only while on: row 15
+    press : x .kind ≡ 2 → (t : Bool) → eqb (x .on) 1 ≡ t → Fits (pressOf s x t) (channelAt s (x .channel))
+    press k true o = (own-ok s ok (x .desk), row-finds s e x z .press-held k)
+    press k false o =
+        let off : x .on ≡ 0 = omega (arith, a .on-ok, eqb-false (x .on) 1 o) in
+        by-test (isPressed (channelAt s (x .channel))) (λ p. p) (λ p. absurd (false≢true (sym (rw (k, p, off) at (no-row s e x z .row15-fails)))))
 
 -- ---- every accepted entry, every entry, every feed
 
 accepted-ok : (s : LineSet) → SetOk s → (e : List ℕ) (x : Entry) → AskedOk x → refusalOf s e x ≡ 0 → EffectOk (accepted s e x)
-unfolding accepted
+unfolding acceptedBy accepted
 accepted-ok s ok e x a z =
-    pick-each EffectOk (x .kind) _ (ways s e x) (record { set-ok = ok; sent-ok = tt })
-    ((λ k. request-ok s ok (x .desk) (askedIn (x .desk) (readTelegram (telegramIn e))) (reading-fits (x .desk) (readTelegram (telegramIn e))))
-    ▹ (λ k. on-ok s ok (x .channel) _ (press-fits s ok e x (a .on-ok) z k))
-    ▹ (λ k. on-ok s ok (x .channel) Cut tt)
-    ▹ (λ k. on-ok s ok (x .channel) _ (a .base-ok, a .number-ok))
-    ▹ (λ k. on-ok s ok (x .channel) MobileOff tt)
+    let d = x .desk in
+    let r = readTelegram (telegramIn e) in
+    let fits = entry-fits s ok e x a z in
+    pick-each EffectOk (x .kind) _ (ways (answersIn s d (askedIn d r)) s e x) (record { set-ok = ok; sent-ok = tt })
+    ((λ k. request-ok s ok d (askedIn d r) (asked-in FitsAll d (λ c. tt) (λ c. tt) r))
+    ▹ (λ k. on-ok s ok (x .channel) _ (fits .press-fits k))
+    ▹ (λ k. on-ok s ok (x .channel) Cut (fits .cut-fits k))
+    ▹ (λ k. on-ok s ok (x .channel) _ (fits .on-fits k))
+    ▹ (λ k. on-ok s ok (x .channel) MobileOff (fits .off-fits k))
     ▹ (λ k. tick-ok s ok)
     ▹ (λ k. plan-ok (planIn e) (plan-kept s e x z k))
     ▹ (λ k. handover-ok s ok)
+    ▹ (λ k. on-ok s ok (x .channel) _ (fits .ring-fits k))
+    ▹ (λ k. on-ok s ok (x .channel) Cancel (fits .cancel-fits k))
     ▹ tt)
 
 new-ok : SetOk newSet

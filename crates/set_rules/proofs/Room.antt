@@ -12,7 +12,7 @@ use lib.Dec.{eqb, leb, ltb}
 use lib.ListN.{length, length-take, take, getD, List·getD-eq-default}
 use borrow.Author.Tests.{eqb-false, leb-false, ltb-false, ltb-true}
 use Rattle.laws.specs.Each.{Each}
-use Rattle.laws.proofs.Each.{_▹_, each-at, each-map, each-take}
+use Rattle.laws.proofs.Each.{_▹_, each-at, each-both, each-map, each-take}
 use Rattle.laws.proofs.Table.{pick-each}
 use Rattle.laws.proofs.Tests.{both, by-test, either}
 use Rattle.telegram.specs.Telegram.{readTelegram}
@@ -27,10 +27,11 @@ use Rattle.channel.specs.declared.state.Arrival.{Arrival}
 use Rattle.channel.specs.declared.state.Arrival.the-variants.{Absent, Present}
 use Rattle.channel.specs.declared.state.Channel.{Channel}
 use Rattle.channel.specs.declared.state.Event.{Event}
-use Rattle.channel.specs.declared.state.Event.the-variants.{Capture, Release, Cut, PressOn, PressOff, MobileOn, MobileOff, Tick, EndTalk, EndCall}
+use Rattle.channel.specs.declared.state.Event.the-variants.{Capture, Release, Cut, PressOn, PressOff, MobileOn, MobileOff, Ring, Cancel, RingAnswer, Tick, EndTalk, EndCall}
 use Rattle.channel.specs.declared.state.Notice.the-variants.{PressAnswer, Incoming, BaseArrival, PressNotice, CallerNotice}
 use Rattle.channel.specs.declared.state.Send.{Send}
-use Rattle.line_rules.specs.Rules.{Step, happens, capture, captureAt, cut, release, pressOn, pressOff, mobileOn, mobileOff, tick, tickIdle, tickQuiet, tickRelease, endTalk, endCall, isPressed, openingSends, callSends, endOf, pressOffSends, pressCall, mobileCall, mobileOffSends, freedSends, mobileRecipients, sentIf, kindOf, to}
+use Rattle.line_rules.specs.Rules.{Step, isRinging, happens, capture, captureAt, cut, release, pressOn, pressOff, mobileOn, mobileOff, ring, unanswered, answered, ringAnswer, tick, tickRing, tickIdle, tickQuiet, tickRelease, endTalk, endCall, isPressed, openingSends, callSends, endOf, pressOffSends, pressCall, mobileCall, mobileOffSends, ringOffSends, freedSends, mobileRecipients, sentIf, kindOf, to}
+use Rattle.line_rules.specs.Invariant.{ChannelOk, Rung}
 use Rattle.line_rules.specs.Among.{AllListen, CallTold, ArrivalTold, Among}
 use Rattle.line_rules.proofs.Kept.{only-other}
 use Rattle.set_state.specs.State.{newSet, noDesk, noChannel, isRunning, listenersOf, channelsOf, placeIn, channelAt}
@@ -41,16 +42,17 @@ use Rattle.set_state.specs.declared.state.LineSet.{LineSet}
 use Rattle.set_state.specs.declared.state.Entry.{Entry}
 use Rattle.set_state.specs.declared.state.LinkRequest.the-variants.{TellsTime, TellsState}
 use Rattle.set_state.specs.declared.state.Request.{Request}
-use Rattle.set_state.specs.declared.state.Request.the-variants.{OfLink, OnChannel, Foreign}
+use Rattle.set_state.specs.declared.state.Request.the-variants.{OfLink, OnChannel, AnswersRing, Foreign}
 use Rattle.set_rules.specs.Entries.{readEntry, measured, payloadOk, payload, telegramIn, planIn}
 use Rattle.set_rules.specs.Plan.{setOf}
 use Rattle.set_rules.specs.Refusals.{Lookup, Test, askedIn, firstOf, table, refusalOf}
-use Rattle.set_rules.specs.Records.{Delivery, delivered, spaceOf}
-use Rattle.set_rules.specs.SetRules.{Effect, onChannel, sendsOf, tickSends, endSends, onTick, onHandover, onPlan, onRequest, ways, accepted}
+use Rattle.set_rules.specs.Records.{delivered, spaceOf}
+use Rattle.set_rules.specs.SetRules.{Effect, onChannel, sendsOf, tickSends, endSends, onTick, onHandover, onPlan, answersIn, onRequest, ways, acceptedBy, accepted}
 use Rattle.set_rules.specs.Feeds.{Item, outcomeOf, stepOf, after}
 use Rattle.set_rules.specs.Invariant.{Shaped, aroundOf}
 use Rattle.set_rules.specs.Promises.{roomEnough, Roomy, Brings}
 use Rattle.set_rules.proofs.Answers.{space-append}
+use Rattle.set_rules.proofs.Readable.{always-ok}
 use Rattle.set_rules.proofs.Shape.{always-shaped}
 use Rattle.set_rules.proofs.Told.{always-among}
 
@@ -95,7 +97,7 @@ one-desk d = ones-one 8 d (only d) (λ j n. only-other j d n)
 abbrev perChannel : ℕ
 perChannel = 718
 
--- the sets kept in a channel have at most four desks
+-- the sets kept in a channel have at most four desks, and while a mobile rings there is nothing else to end
 abbrev CallFew : Call → Type 0
 CallFew Closed = Unit {0}
 CallFew (Open k d m b s) = onesIn 8 m ≤ 4
@@ -107,6 +109,7 @@ ArrivalFew (Present k m b n) = onesIn 8 m ≤ 4
 record Few (c : Channel) : Type 0 where
   call-few : CallFew (c .call)
   arrival-few : ArrivalFew (c .arrival)
+  rung : isRinging c ≡ true → Rung c
 
 module _ (ds : List Desk) (ch : ℕ) where
   unfoldable takes : List Send → ℕ
@@ -142,6 +145,12 @@ module _ (ds : List Desk) (ch : ℕ) where
   mobile-off-takes Absent f = omega arith
   mobile-off-takes (Present k m b n) f = omega (arith, f)
 
+  -- a contact and 550480: 8 and 35
+  ring-off-takes : (k : Call) → CallFew k → takes (ringOffSends k) ≤ 172
+  unfolding takes delivered spaceOf
+  ring-off-takes Closed f = omega arith
+  ring-off-takes (Open k d m b s) f = omega (arith, f)
+
   module _ (e : ℕ) (listeners : onesIn 8 e ≤ 4) (c : Channel) (few : Few c) where
     -- 550651: 34 bytes
     freed-takes : takes (freedSends e c) ≤ 136
@@ -156,7 +165,7 @@ module _ (ds : List Desk) (ch : ℕ) where
     capture-takes d = go (c .holder)
       where
         go : (h : Party) → takes (captureAt h e d c .sends) ≤ 161
-        go Nobody = omega (arith, one-desk d, listeners)
+        go Nobody = either (Within 161) (isRinging c) _ _ (omega (arith, one-desk d)) (omega (arith, one-desk d, listeners))
         go (By h) = omega (arith, one-desk d)
 
     cut-takes : takes (cut e c .sends) ≤ 386
@@ -202,17 +211,36 @@ module _ (ds : List Desk) (ch : ℕ) where
     unfolding mobileOff
     mobileOff-takes = mobile-off-takes (c .arrival) (few .arrival-few)
 
-    -- a call's end, or a release
-    tick-takes : takes (tick e c .sends) ≤ 204
-    unfolding tick tickIdle tickQuiet tickRelease
+    -- a contact, 550468 and 550473 to one desk: 8, 43 and 51
+    ring-takes : (d b : ℕ) (n : Number) → takes (ring d b n c .sends) ≤ 102
+    unfolding ring takes delivered spaceOf
+    ring-takes d b n = omega (arith, one-desk d)
+
+    -- a cancel, and a ring that times out
+    unanswered-takes : (reason : ℕ) → takes (unanswered reason c .sends) ≤ 376
+    unfolding unanswered
+    unanswered-takes reason =
+        let p = takes-append (ringOffSends (c .call)) (endOf reason (c .call)) in
+        omega (arith, p, ring-off-takes (c .call) (few .call-few), call-takes 0 reason (c .call) (few .call-few))
+
+    -- 550469 and 550480 to one desk, and 550651: 25, 35 and 34
+    answer-takes : (d : ℕ) (t : Bool) → takes (ringAnswer e d t c .sends) ≤ 196
+    unfolding ringAnswer answered takes delivered spaceOf
+    answer-takes d t = either (Within 196) t _ _ (omega (arith, one-desk d, listeners)) (omega (arith, one-desk d))
+
+    -- a ring's end, a call's end, or a release
+    tick-takes : takes (tick e c .sends) ≤ 376
+    unfolding tick tickRing tickIdle tickQuiet tickRelease
     tick-takes =
-        let P = Within 204 in
-        let none = nothing-takes 204 in
-        either P (isPressed c) _ _ none
+        let P = Within 376 in
+        let none = nothing-takes 376 in
+        either P (isRinging c) _ _
+        (either P (leb (c .ring) 1) _ _ (unanswered-takes 5) none)
+        (either P (isPressed c) _ _ none
         (either P (isPresent (c .arrival)) _ _ none
         (either P (ltb 0 (c .quiet)) _ _
-        (either P (leb (c .quiet) 1) _ _ (call-takes 0 3 (c .call) (few .call-few)) none)
-        (either P (isHeld (c .holder)) _ _ (either P (leb (c .release) 1) _ _ (omega (arith, freed-takes)) none) none)))
+        (either P (leb (c .quiet) 1) _ _ (omega (arith, call-takes 0 3 (c .call) (few .call-few))) none)
+        (either P (isHeld (c .holder)) _ _ (either P (leb (c .release) 1) _ _ (omega (arith, freed-takes)) none) none))))
 
     endTalk-takes : takes (endTalk c .sends) ≤ 378
     unfolding endTalk
@@ -220,15 +248,33 @@ module _ (ds : List Desk) (ch : ℕ) where
         let p = takes-append (pressOffSends (c .presser) (c .call)) (mobileOffSends (c .arrival)) in
         omega (arith, p, press-off-takes (c .presser) (c .call), mobile-off-takes (c .arrival) (few .arrival-few))
 
-    endCall-takes : takes (endCall e c .sends) ≤ 340
+    -- what is sent if a test holds
+    if-takes : (t : Bool) (ss : List Send) (n : ℕ) → takes ss ≤ n → takes (sentIf t ss) ≤ n
+    if-takes t ss n l = either (λ (us : List Send). takes us ≤ n) t ss [] l (nothing-takes n)
+
+    -- a ring's end aside
+    endCall-takes : (n : ℕ) → takes (sentIf (isRinging c) (ringOffSends (c .call))) ≤ n → takes (endCall e c .sends) ≤ n + 340
     unfolding endCall
-    endCall-takes =
-        let p = takes-append (endOf 2 (c .call)) (sentIf (isHeld (c .holder)) (freedSends e c)) in
-        let q = either (λ (ss : List Send). takes ss ≤ 136) (isHeld (c .holder)) (freedSends e c) [] freed-takes (nothing-takes 136) in
-        omega (arith, p, q, call-takes 0 2 (c .call) (few .call-few))
+    endCall-takes n l =
+        let freed = sentIf (isHeld (c .holder)) (freedSends e c) in
+        let p = takes-append (sentIf (isRinging c) (ringOffSends (c .call))) (endOf 2 (c .call) ++ freed) in
+        let q = takes-append (endOf 2 (c .call)) freed in
+        omega (arith, p, q, l, if-takes (isHeld (c .holder)) (freedSends e c) 136 freed-takes, call-takes 0 2 (c .call) (few .call-few))
+
+    ended-takes : takes (endCall e c .sends) ≤ 512
+    ended-takes = omega (arith, endCall-takes 172 (if-takes (isRinging c) _ 172 (ring-off-takes (c .call) (few .call-few))))
+
+    -- nobody presses or talks while a mobile rings
+    rung-takes : isRinging c ≡ true → takes (endTalk c .sends) ≤ 0
+    unfolding endTalk
+    rung-takes h = let r = few .rung h in rw (r .nobody-presses, r .nobody-talks) (nothing-takes 0)
 
     handover-takes : takes (endTalk c .sends ++ endCall e c .sends) ≤ perChannel
-    handover-takes = omega (arith, takes-append (endTalk c .sends) (endCall e c .sends), endTalk-takes, endCall-takes)
+    handover-takes =
+        let p = takes-append (endTalk c .sends) (endCall e c .sends) in
+        by-test (isRinging c)
+        (λ h. omega (arith, p, rung-takes h, ended-takes))
+        (λ h. omega (arith, p, endTalk-takes, endCall-takes 0 (rw h (nothing-takes 0))))
 
     -- any event on one channel: a mobile on sends most
     happens-takes : (v : Event) → takes (happens v e c .sends) ≤ 536
@@ -240,9 +286,12 @@ module _ (ds : List Desk) (ch : ℕ) where
     happens-takes PressOff = omega (arith, pressOff-takes)
     happens-takes (MobileOn b n) = mobileOn-takes b n
     happens-takes MobileOff = omega (arith, mobileOff-takes)
+    happens-takes (Ring d b n) = omega (arith, ring-takes d b n)
+    happens-takes Cancel = omega (arith, unanswered-takes 2)
+    happens-takes (RingAnswer d t) = omega (arith, answer-takes d t)
     happens-takes Tick = omega (arith, tick-takes)
     happens-takes EndTalk = omega (arith, endTalk-takes)
-    happens-takes EndCall = omega (arith, endCall-takes)
+    happens-takes EndCall = omega (arith, ended-takes)
 
 -- ---- entries, in a set of at most 32 channels whose listeners are at most four
 
@@ -250,22 +299,23 @@ module _ (s : LineSet) (shaped : Shaped s) (few : Each Few (s .channels)) (liste
   abbrev Room : Effect → Type 0
   Room f = spaceOf (f .sent) ≤ roomEnough
 
-  -- presses, cuts and mobiles, and captures and releases by telegram
+  -- presses, cuts and mobiles, and what is asked of a channel by telegram
   on-room : (ch : ℕ) (v : Event) → Room (onChannel s ch v)
   unfolding onChannel takes
   on-room ch v =
       let c = channelAt s ch in
-      let none : Few noChannel = record { call-few = tt; arrival-few = tt } in
+      let none : Few noChannel = record { call-few = tt; arrival-few = tt; rung = λ h. absurd (false≢true h) } in
       let at = each-at Few (channelsOf s) noChannel (each-take Few (s .size .channels) (s .channels) few) none (placeIn s ch) in
       omega (arith, happens-takes (s .desks) (c .code) (listenersOf (s .desks) (s .size .desks) c) (listeners c) c at v)
 
   -- telegrams
-  request-room : (d : ℕ) (q : Request) → Room (onRequest s d q)
+  request-room : (t : Bool) (d : ℕ) (q : Request) → Room (onRequest t s d q)
   unfolding spaceOf
-  request-room d (OfLink TellsTime) = omega (arith, one-desk d)
-  request-room d (OfLink (TellsState a)) = omega arith
-  request-room d (OnChannel ch n v) = on-room ch v
-  request-room d Foreign = omega arith
+  request-room t d (OfLink TellsTime) = omega (arith, one-desk d)
+  request-room t d (OfLink (TellsState a)) = omega arith
+  request-room t d (OnChannel ch n v) = on-room ch v
+  request-room t d (AnswersRing m) = on-room (m .channel) _
+  request-room t d Foreign = omega arith
 
   -- all channels, at n bytes each
   all-take : (f : Channel → List Send) (n : ℕ) → ((c : Channel) → Few c → takes (s .desks) (c .code) (f c) ≤ n)
@@ -284,7 +334,7 @@ module _ (s : LineSet) (shaped : Shaped s) (few : Each Few (s .channels)) (liste
 
   tick-room : Room (onTick s)
   unfolding onTick happens
-  tick-room = omega (arith, planned-take (tickSends (s .desks) (s .size .desks)) 204 (λ c f. tick-takes (s .desks) (c .code) _ (listeners c) c f))
+  tick-room = omega (arith, planned-take (tickSends (s .desks) (s .size .desks)) 376 (λ c f. tick-takes (s .desks) (c .code) _ (listeners c) c f))
 
   handover-room : Room (onHandover s)
   unfolding onHandover happens
@@ -296,10 +346,11 @@ module _ (s : LineSet) (shaped : Shaped s) (few : Each Few (s .channels)) (liste
   plan-room p = omega (arith, ones-places 8 (firstDesks (setOf p .size .desks)))
 
   accepted-room : (e : List ℕ) (x : Entry) → Room (accepted s e x)
-  unfolding accepted spaceOf
+  unfolding acceptedBy accepted spaceOf
   accepted-room e x =
-      pick-each Room (x .kind) _ (ways s e x) (omega arith)
-      ((λ k. request-room (x .desk) (askedIn (x .desk) (readTelegram (telegramIn e))))
+      let q = askedIn (x .desk) (readTelegram (telegramIn e)) in
+      pick-each Room (x .kind) _ (ways (answersIn s (x .desk) q) s e x) (omega arith)
+      ((λ k. request-room _ (x .desk) q)
       ▹ (λ k. on-room (x .channel) _)
       ▹ (λ k. on-room (x .channel) Cut)
       ▹ (λ k. on-room (x .channel) _)
@@ -307,46 +358,58 @@ module _ (s : LineSet) (shaped : Shaped s) (few : Each Few (s .channels)) (liste
       ▹ (λ k. tick-room)
       ▹ (λ k. plan-room (planIn e))
       ▹ (λ k. handover-room)
+      ▹ (λ k. on-room (x .channel) _)
+      ▹ (λ k. on-room (x .channel) Cancel)
       ▹ tt)
 
 -- ---- no other refusal is 16
 
--- the number of the first row that holds
-first-most : (rows : List (ℕ × Test)) → Each (λ (row : ℕ × Test). row .0 ≤ 15) rows → (v : Lookup) (e : List ℕ) (r : Reading) (x : Entry) → firstOf rows v e r x ≤ 15
-unfolding firstOf
-first-most [] o v e r x = omega arith
-first-most (row ∷ rows) o v e r x = either (λ (n : ℕ). n ≤ 15) ((row .1) v e r x) (row .0) (firstOf rows v e r x) (o .0) (first-most rows (o .1) v e r x)
+abbrev Other : ℕ → Type 0
+Other n = n ≡ 16 → ⊥
 
-rows-most : Each (λ (row : ℕ × Test). row .0 ≤ 15) table
-rows-most =
-    omega arith ▹ omega arith ▹ omega arith ▹ omega arith ▹ omega arith ▹ omega arith ▹ omega arith ▹ omega arith ▹ omega arith ▹ omega arith
-    ▹ omega arith ▹ omega arith ▹ tt
+other : (n : ℕ) → eqb n 16 ≡ false → Other n
+other n h = eqb-false n 16 h
+
+-- the number of the first row that holds
+first-other : (rows : List (ℕ × Test)) → Each (λ (row : ℕ × Test). Other (row .0)) rows → (v : Lookup) (e : List ℕ) (r : Reading) (x : Entry) → Other (firstOf rows v e r x)
+unfolding firstOf
+first-other [] o v e r x = other 0 refl
+first-other (row ∷ rows) o v e r x = either Other ((row .1) v e r x) (row .0) (firstOf rows v e r x) (o .0) (first-other rows (o .1) v e r x)
+
+rows-other : Each (λ (row : ℕ × Test). Other (row .0)) table
+rows-other =
+    let o = other in
+    o _ refl ▹ o _ refl ▹ o _ refl ▹ o _ refl ▹ o _ refl ▹ o _ refl ▹ o _ refl ▹ o _ refl ▹ o _ refl ▹ o _ refl ▹ o _ refl ▹ o _ refl
+    ▹ o _ refl ▹ tt
 
 -- the number of bytes that do not read
-abbrev NotSixteen : Entry → Type 0
-NotSixteen x = x .refusal ≤ 15
+abbrev ReadsOther : Entry → Type 0
+ReadsOther x = Other (x .refusal)
 
-payload-most : (k : ℕ) (e : List ℕ) → NotSixteen (payload k e)
-payload-most k e =
-    either NotSixteen (eqb k 1) _ _ (omega arith)
-    (either NotSixteen (eqb k 2) _ _ (omega arith)
-    (either NotSixteen (eqb k 3) _ _ (omega arith)
-    (either NotSixteen (eqb k 4) _ _ (omega arith)
-    (either NotSixteen (eqb k 5) _ _ (omega arith) (omega arith)))))
+payload-other : (k : ℕ) (e : List ℕ) → ReadsOther (payload k e)
+payload-other k e =
+    let z = other 0 refl in
+    either ReadsOther (eqb k 1) _ _ z
+    (either ReadsOther (eqb k 2) _ _ z
+    (either ReadsOther (eqb k 3) _ _ z
+    (either ReadsOther (eqb k 4) _ _ z
+    (either ReadsOther (eqb k 5) _ _ z
+    (either ReadsOther (eqb k 9) _ _ z
+    (either ReadsOther (eqb k 10) _ _ z z))))))
 
-read-most : (e : List ℕ) → NotSixteen (readEntry e)
+read-other : (e : List ℕ) → ReadsOther (readEntry e)
 unfolding readEntry
-read-most e =
-    either NotSixteen (measured e) _ _
-    (either NotSixteen (eqb (byte e 2) 1) _ _ (either NotSixteen (payloadOk (byte e 3) e) _ _ (payload-most (byte e 3) e) (omega arith)) (omega arith))
-    (omega arith)
+read-other e =
+    either ReadsOther (measured e) _ _
+    (either ReadsOther (eqb (byte e 2) 1) _ _ (either ReadsOther (payloadOk (byte e 3) e) _ _ (payload-other (byte e 3) e) (other 3 refl)) (other 2 refl))
+    (other 1 refl)
 
-refusal-most : (s : LineSet) (e : List ℕ) → refusalOf s e (readEntry e) ≤ 15
+refusal-other : (s : LineSet) (e : List ℕ) → Other (refusalOf s e (readEntry e))
 unfolding refusalOf
-refusal-most s e =
-    either (λ (n : ℕ). n ≤ 15) (eqb (readEntry e .refusal) 0) _ _
-    (first-most table rows-most _ e (readTelegram (telegramIn e)) (readEntry e))
-    (read-most e)
+refusal-other s e =
+    either Other (eqb (readEntry e .refusal) 0) _ _
+    (first-other table rows-other _ e (readTelegram (telegramIn e)) (readEntry e))
+    (read-other e)
 
 -- ---- every feed
 
@@ -365,8 +428,8 @@ brought : (f : List Item) → Each (Brings Any) f
 brought [] = tt
 brought (i ∷ f) = (λ k. tt, brought f)
 
-among-few : (s : LineSet) → Shaped s → (c : Channel) → Among (aroundOf s Any) c → Few c
-among-few s shaped c a = record { call-few = call (c .call) (a .call-told); arrival-few = arrival (c .arrival) (a .arrival-told) }
+among-few : (s : LineSet) → Shaped s → (c : Channel) → ChannelOk c × Among (aroundOf s Any) c → Few c
+among-few s shaped c k = record { call-few = call (c .call) (k .1 .call-told); arrival-few = arrival (c .arrival) (k .1 .arrival-told); rung = k .0 .rung }
   where
     told : (m : ℕ) → AllListen (aroundOf s Any) c m → onesIn 8 m ≤ 4
     told m l = le-trans (ones-most 8 (s .size .desks) m (λ d i. l d i .0 .0)) (shaped .desks-most)
@@ -392,7 +455,8 @@ room-after : (f : List Item) (e : List ℕ) (x : Entry) → spaceOf (accepted (a
 room-after f e x =
     let s = after newSet f in
     let shaped = always-shaped f in
-    let few = each-map (Among (aroundOf s Any)) Few (among-few s shaped) (s .channels) (always-among Any f (brought f)) in
+    let all = each-both ChannelOk (Among (aroundOf s Any)) (s .channels) (always-ok f .channels-ok) (always-among Any f (brought f)) in
+    let few = each-map _ Few (among-few s shaped) (s .channels) all in
     accepted-room s shaped few (listeners-few s shaped) e x
 
 pub roomy : Roomy
@@ -409,4 +473,4 @@ roomy f i l z =
     go : (t : Bool) → eqb (refusalOf s (i .entry) x) 0 ≡ t → (u : Bool) → leb (spaceOf (accepted s (i .entry) x .sent)) (length (i .buffer)) ≡ u → ⊥
     go true k true m = omega (arith, rw (k, m) at z)
     go true k false m = omega (arith, l, leb-false (spaceOf (accepted s (i .entry) x .sent)) (length (i .buffer)) m, room-after f (i .entry) x)
-    go false k u m = omega (arith, rw k at z, refusal-most s (i .entry))
+    go false k u m = refusal-other s (i .entry) (rw k at z)

@@ -19,7 +19,7 @@ use Rattle.telegram.specs.Telegram.{readTelegram}
 use Rattle.channel.specs.State.{isIn, firstDesks}
 use Rattle.channel.specs.declared.state.Channel.{Channel}
 use Rattle.channel.specs.declared.state.Event.{Event}
-use Rattle.channel.specs.declared.state.Event.the-variants.{Cut, MobileOff, Tick}
+use Rattle.channel.specs.declared.state.Event.the-variants.{Cut, MobileOff, Cancel, Tick}
 use Rattle.channel.proofs.Kept.{none-above}
 use Rattle.line_rules.proofs.Kept.{keeps-place}
 use Rattle.set_state.specs.State.{newSet, noDesk, noChannel, listenersOf, channelsOf, placeIn, hasChannel, channelAt, timeTold, answered, withChannels, withLink}
@@ -29,11 +29,11 @@ use Rattle.set_state.specs.declared.state.LineSet.{LineSet}
 use Rattle.set_state.specs.declared.state.Entry.{Entry}
 use Rattle.set_state.specs.declared.state.LinkRequest.the-variants.{TellsTime, TellsState}
 use Rattle.set_state.specs.declared.state.Request.{Request}
-use Rattle.set_state.specs.declared.state.Request.the-variants.{OfLink, OnChannel, Foreign}
+use Rattle.set_state.specs.declared.state.Request.the-variants.{OfLink, OnChannel, AnswersRing, Foreign}
 use Rattle.set_rules.specs.Entries.{readEntry, telegramIn, planIn}
 use Rattle.set_rules.specs.Plan.{desksIn, channelsOk, channelsIn, deskCount, desksPart, channelCount, channelsPart, planOk, filled, setOf}
 use Rattle.set_rules.specs.Refusals.{lookupIn, askedIn, channelIn, named, mayUse, refusalOf}
-use Rattle.set_rules.specs.SetRules.{Effect, movedIn, onChannel, ticked, onTick, onHandover, onRequest, ways, accepted}
+use Rattle.set_rules.specs.SetRules.{Effect, movedIn, onChannel, ticked, onTick, onHandover, answersIn, onRequest, ways, acceptedBy, accepted}
 use Rattle.set_rules.specs.Feeds.{after}
 use Rattle.set_rules.specs.Invariant.{EntitledIn, Rising, Shaped}
 use Rattle.set_rules.specs.RecordLaws.{DesksAsSaid, ChannelsAsSaid}
@@ -74,7 +74,7 @@ module _ {A : Type 0} (N : ℕ) (z : A) (n : ℕ) where
 
 -- ---- entitled desks
 
-mask-in : (n m : ℕ) → m < 2 ^ n → (d : ℕ) → isIn d m ≡ true → d < n
+pub mask-in : (n m : ℕ) → m < 2 ^ n → (d : ℕ) → isIn d m ≡ true → d < n
 mask-in n m h d i = by-test (ltb d n) (ltb-true d n) (λ k. absurd (false≢true (sym (none-above n d m (ltb-false d n k) h) ∙ i)))
 
 no-channel-in : (n : ℕ) → EntitledIn n noChannel
@@ -164,11 +164,13 @@ module _ (s : LineSet) (h : Shaped s) where
         codes-rise = h .codes-rise;
       }
 
-  request-shaped : (d : ℕ) (q : Request) → d < s .size .desks → named true (λ ch n. mayUse (lookupIn s (channelIn q)) d) q ≡ true → Shaped (onRequest s d q .after)
-  request-shaped d (OfLink TellsTime) l m = link-shaped d timeTold l
-  request-shaped d (OfLink (TellsState a)) l m = link-shaped d (answered a) l
-  request-shaped d (OnChannel ch n v) l m = on-shaped ch v (both (hasChannel s ch) _ m .0)
-  request-shaped d Foreign l m = h
+  request-shaped : (t : Bool) (d : ℕ) (q : Request) → d < s .size .desks
+      → named true (λ ch n. mayUse (lookupIn s (channelIn q)) d) (λ m. mayUse (lookupIn s (channelIn q)) d) q ≡ true → Shaped (onRequest t s d q .after)
+  request-shaped t d (OfLink TellsTime) l u = link-shaped d timeTold l
+  request-shaped t d (OfLink (TellsState a)) l u = link-shaped d (answered a) l
+  request-shaped t d (OnChannel ch n v) l u = on-shaped ch v (both (hasChannel s ch) _ u .0)
+  request-shaped t d (AnswersRing m) l u = on-shaped (m .channel) _ (both (hasChannel s (m .channel)) _ u .0)
+  request-shaped t d Foreign l u = h
 
 -- ---- a plan that keeps its rules
 
@@ -245,14 +247,14 @@ new-shaped = record {
 
 module _ (s : LineSet) (e : List ℕ) (x : Entry) (z : refusalOf s e x ≡ 0) where
   -- the desk of a telegram is in the plan, and so is a channel that it names: rows 7 and 12
-  told-shaped : Shaped s → x .kind ≡ 1 → Shaped (onRequest s (x .desk) (askedIn (x .desk) (readTelegram (telegramIn e))) .after)
-  told-shaped h k =
+  told-shaped : Shaped s → (t : Bool) → x .kind ≡ 1 → Shaped (onRequest t s (x .desk) (askedIn (x .desk) (readTelegram (telegramIn e))) .after)
+  told-shaped h t k =
       let r = no-row s e x z in
-      request-shaped s h (x .desk) (askedIn (x .desk) (readTelegram (telegramIn e))) (ltb-true _ _ (not-false _ (rw k at (r .row7-fails)))) (not-false _ (rw k at (r .row12-fails)))
+      request-shaped s h t (x .desk) (askedIn (x .desk) (readTelegram (telegramIn e))) (ltb-true _ _ (not-false _ (rw k at (r .row7-fails)))) (not-false _ (rw k at (r .row12-fails)))
 
   -- so is the channel of a press, a cut or a mobile: row 12
-  pub found : (k : ℕ) → eqb k 1 ≡ false → ((eqb k 2 || eqb k 3) || (eqb k 4 || eqb k 5)) ≡ true → x .kind ≡ k → hasChannel s (x .channel) ≡ true
-  found k a b q = go (eqb k 2 || eqb k 3) (eqb k 4 || eqb k 5) (hasChannel s (x .channel)) _ b (rw (q, a) at (no-row s e x z .row12-fails))
+  pub found : (k : ℕ) → eqb k 1 ≡ false → ((eqb k 2 || eqb k 3) || (eqb k 4 || eqb k 5 || eqb k 9 || eqb k 10)) ≡ true → x .kind ≡ k → hasChannel s (x .channel) ≡ true
+  found k a b q = go (eqb k 2 || eqb k 3) (eqb k 4 || eqb k 5 || eqb k 9 || eqb k 10) (hasChannel s (x .channel)) _ b (rw (q, a) at (no-row s e x z .row12-fails))
     where
       go : (t u f m : Bool) → (t || u) ≡ true → cond t (not (f && m)) (cond u (not f) false) ≡ false → f ≡ true
       go true u f m o r = both f m (not-false (f && m) r) .0
@@ -260,10 +262,11 @@ module _ (s : LineSet) (e : List ℕ) (x : Entry) (z : refusalOf s e x ≡ 0) wh
       go false false f m o r = absurd (false≢true o)
 
   accepted-shaped : Shaped s → Shaped (accepted s e x .after)
-  unfolding accepted onHandover
+  unfolding acceptedBy accepted onHandover
   accepted-shaped h =
-      pick-each (λ (f : Effect). Shaped (f .after)) (x .kind) _ (ways s e x) h
-      (told-shaped h
+      let t = answersIn s (x .desk) (askedIn (x .desk) (readTelegram (telegramIn e))) in
+      pick-each (λ (f : Effect). Shaped (f .after)) (x .kind) _ (ways t s e x) h
+      (told-shaped h t
       ▹ (λ k. on-shaped s h (x .channel) _ (found 2 refl refl k))
       ▹ (λ k. on-shaped s h (x .channel) Cut (found 3 refl refl k))
       ▹ (λ k. on-shaped s h (x .channel) _ (found 4 refl refl k))
@@ -271,6 +274,8 @@ module _ (s : LineSet) (e : List ℕ) (x : Entry) (z : refusalOf s e x ≡ 0) wh
       ▹ (λ k. tick-shaped s h)
       ▹ (λ k. plan-shaped (planIn e) (plan-kept s e x z k))
       ▹ (λ k. new-shaped)
+      ▹ (λ k. on-shaped s h (x .channel) _ (found 9 refl refl k))
+      ▹ (λ k. on-shaped s h (x .channel) Cancel (found 10 refl refl k))
       ▹ tt)
 
 pub always-shaped : AlwaysShaped

@@ -4,11 +4,13 @@ use Prim.Native.Nat.{ℕ, zero, suc, _+_}
 use mathlib.Core.List.{List, [], _∷_, _++_, map, append-nil}
 use mathlib.Core.Bool.{Bool, true, false, _&&_, not, cond, false≢true}
 use mathlib.Core.Path.{_≡_, refl, sym, ap, _∙_}
+use native.Mathlib.Omega.{arith}
 use lib.Dec.{eqb, ltb}
 use lib.ListN.{length, replicate, getD}
+use borrow.Author.Tests.{ltb-false}
 use Rattle.laws.proofs.Tests.{by-test}
 use Rattle.channel.specs.State.{isIn, isHeld}
-use Rattle.line_rules.specs.Rules.{happens, pressOff, tick, tickIdle, tickQuiet, tickRelease, isOpen, isPressed, endOf, freedSends}
+use Rattle.line_rules.specs.Rules.{happens, pressOff, tick, tickIdle, tickQuiet, tickRelease, isOpen, isPressed, isRinging, endOf, freedSends}
 use Rattle.line_rules.specs.Promises.{quietly}
 use Rattle.channel.specs.declared.state.Party.the-variants.{By}
 use Rattle.channel.specs.declared.state.Call.{Call}
@@ -22,7 +24,7 @@ use Rattle.laws.specs.Each.{Each}
 use Rattle.laws.specs.Table.{pick}
 use Rattle.set_rules.specs.Refusals.{refusalOf}
 use Rattle.set_rules.specs.Records.{delivered, recordsOf}
-use Rattle.set_rules.specs.SetRules.{sendsOf, onChannel, onTick, accepted}
+use Rattle.set_rules.specs.SetRules.{sendsOf, onChannel, onTick, acceptedBy, accepted}
 use Rattle.set_rules.specs.Feeds.{Item, stepBy, run, after}
 use Rattle.set_rules.specs.Spelling.{entryOf}
 use Rattle.set_rules.specs.Marked.{Accepted, Ticked, tickedBy, tickOf, ticksWith, endBytes, EndsAt}
@@ -40,7 +42,7 @@ use Rattle.set_state.specs.declared.state.Entry.{Entry}
 tick-done : (s : LineSet) (b : List ℕ) → stepBy s (record { entry = entryOf 6 []; buffer = b }) .refusal ≡ 0
     → (stepBy s (record { entry = entryOf 6 []; buffer = b }) .bytes ≡ recordsOf (s .desks) (onTick s .sent))
     × (stepBy s (record { entry = entryOf 6 []; buffer = b }) .after ≡ onTick s .after)
-unfolding pick accepted readEntry onTick
+unfolding pick acceptedBy accepted readEntry onTick
 tick-done s b z = let k = accepted-done s (record { entry = entryOf 6 []; buffer = b }) z in (k .bytes-are, k .after-is)
 
 -- what a tick of a set writes, and how it leaves the first channel
@@ -116,11 +118,11 @@ one-place c rest ds n ch h = go (eqb (c .code) ch) h
     go true h = refl
     go false h = absurd (false≢true h)
 
-let-go : (c : Channel) (rest : List Channel) (ds : List Desk) (n d : ℕ) (e : List ℕ) (x : Entry) → c .holder ≡ By d → c .arrival ≡ Absent
+let-go : (c : Channel) (rest : List Channel) (ds : List Desk) (n d : ℕ) (e : List ℕ) (x : Entry) → c .holder ≡ By d → c .arrival ≡ Absent → c .ring ≡ 0
     → x .kind ≡ 2 → x .on ≡ 0 → eqb (c .code) (x .channel) ≡ true
     → accepted (setWith c rest ds n) e x .after ≡ setWith (quietly (c .code) (c .entitled) d (c .call)) rest ds n
-unfolding pick accepted onChannel placeOf happens pressOff quietly
-let-go c rest ds n d e x h a k o m = rw (k, o, m, h, a)
+unfolding pick acceptedBy accepted onChannel placeOf happens pressOff quietly
+let-go c rest ds n d e x h a q k o m = rw (k, o, m, h, a, q)
 
 -- the channel was pressed: row 15
 was-pressed : (c : Channel) (rest : List Channel) (ds : List Desk) (n : ℕ) (e : List ℕ) (x : Entry) → x .kind ≡ 2 → x .on ≡ 0
@@ -130,11 +132,15 @@ was-pressed c rest ds n e x k o m z =
     let off : eqb 0 (cond (isPressed c) 1 0) ≡ false = rw (k, o, m) at (no-row (setWith c rest ds n) e x z .row15-fails) in
     by-test (isPressed c) (λ p. p) (λ p. absurd (false≢true (sym (rw p at off))))
 
--- and so a call was open
-press-open : (f : List Item) (c : Channel) (rest : List Channel) → after newSet f .channels ≡ c ∷ rest → isPressed c ≡ true → isOpen (c .call) ≡ true
-press-open f c rest cs p =
-    let ok : Each ChannelOk (c ∷ rest) = rw cs at (always-ok f .channels-ok) in
-    ok .0 .timed .pressed-open p
+-- so a call was open (`Timed`), and no mobile rings where a desk holds
+first-ok : (f : List Item) (c : Channel) (rest : List Channel) → after newSet f .channels ≡ c ∷ rest → ChannelOk c
+first-ok f c rest cs = let ok : Each ChannelOk (c ∷ rest) = rw cs at (always-ok f .channels-ok) in ok .0
+
+held-silent : (c : Channel) (d : ℕ) → ChannelOk c → c .holder ≡ By d → c .ring ≡ 0
+held-silent c d ok h =
+    by-test (isRinging c)
+    (λ r. absurd (false≢true (ap isHeld (sym (ok .rung r .nobody-holds) ∙ h))))
+    (λ r. omega (arith, ltb-false 0 (c .ring) r))
 
 pub ends-at : EndsAt 10 130
 unfolding quietly
@@ -147,13 +153,14 @@ ends-at f c rest d one cs h a i k o z bs l all =
     let e : s ≡ s′ = λ j. record { channels = cs j; desks = s .desks; size = record { desks = s .size .desks; channels = one j }; planned = p .0 j } in
     let m = one-place c rest (s .desks) (s .size .desks) (x .channel) (ap (λ (t : LineSet). hasChannel t (x .channel)) (sym e) ∙ p .1) in
     let pressed = was-pressed c rest (s .desks) (s .size .desks) (i .entry) x k o m (ap (λ (t : LineSet). refusalOf t (i .entry) x) (sym e) ∙ r .0) in
+    let ok = first-ok f c rest cs in
     let q = quietly (c .code) (c .entitled) d (c .call) in
     let s₁ = setWith q rest (s .desks) (s .size .desks) in
     let g : stepBy s i .after ≡ s₁ =
-    r .1 ∙ ap (λ (t : LineSet). accepted t (i .entry) x .after) e ∙ let-go c rest (s .desks) (s .size .desks) d (i .entry) x h a k o m in
+    r .1 ∙ ap (λ (t : LineSet). accepted t (i .entry) x .after) e ∙ let-go c rest (s .desks) (s .size .desks) d (i .entry) x h a (held-silent c d ok h) k o m in
     let w : freedSends (listenersOf (s .desks) (s .size .desks) q) q ≡ freedSends (listenersOf (s .desks) (s .size .desks) c) c = rw h in
     ap (λ (t : LineSet). map tickOf (run t (ticksWith bs))) g
     ∙ ticks-are bs s₁ (rw g at all)
     ∙ ap (λ (j : ℕ). byTicks j s₁) l
-    ∙ ticked-open (c .code) (c .entitled) d (s .size .desks) (c .call) (press-open f c rest cs pressed) rest (s .desks)
+    ∙ ticked-open (c .code) (c .entitled) d (s .size .desks) (c .call) (ok .timed .pressed-open pressed) rest (s .desks)
     ∙ ap (λ (n : List Send). inWords (endBytes s c) (recordsOf (s .desks) (delivered (s .desks) (c .code) n))) w

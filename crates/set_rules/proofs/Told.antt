@@ -4,6 +4,7 @@
 use Prim.Native.Nat.{ℕ, zero, suc, _-_, _≤_, _<_}
 use mathlib.Core.List.{List, [], _∷_, _++_, map}
 use mathlib.Core.Bool.{Bool, true, false, _&&_, not, cond, false≢true}
+use mathlib.Core.Logic.{inl, inr}
 use mathlib.Core.Path.{_≡_, refl, sym, ap, subst, _∙_}
 use native.Mathlib.Omega.{arith}
 use lib.Dec.{eqb}
@@ -19,13 +20,13 @@ use Rattle.telegram.specs.declared.message.Message.the-variants.{TimeRequest, O
 use Rattle.channel.specs.State.{isIn, only, firstDesks}
 use Rattle.channel.specs.declared.state.Channel.{Channel}
 use Rattle.channel.specs.declared.state.Event.{Event}
-use Rattle.channel.specs.declared.state.Event.the-variants.{Cut, MobileOff, Tick, EndTalk, EndCall}
+use Rattle.channel.specs.declared.state.Event.the-variants.{Cut, MobileOff, Cancel, Tick, EndTalk, EndCall}
 use Rattle.channel.specs.declared.state.Send.{Send}
 use Rattle.line_rules.specs.Notices.{telegram}
 use Rattle.line_rules.specs.Invariant.{ChannelOk, Fits}
 use Rattle.line_rules.specs.Among.{Around, Listens, AllListen, Among, FitsAmong, SendTold, StepAmong}
 use Rattle.line_rules.proofs.Kept.{free-is-among, stays-among}
-use Rattle.set_state.specs.State.{newSet, noDesk, noChannel, channelsOf, placeIn, hasChannel, channelAt, listenersOf, timeTold, answered, withLink}
+use Rattle.set_state.specs.State.{newSet, noDesk, noChannel, ownOf, channelsOf, placeIn, hasChannel, channelAt, listenersOf, timeTold, answered, withLink}
 use Rattle.set_state.specs.Bytes.{byte}
 use Rattle.set_state.proofs.Kept.{listeners-exactly}
 use Rattle.set_state.specs.declared.state.Link.{Link}
@@ -34,21 +35,22 @@ use Rattle.set_state.specs.declared.state.LineSet.{LineSet}
 use Rattle.set_state.specs.declared.state.Entry.{Entry}
 use Rattle.set_state.specs.declared.state.LinkRequest.the-variants.{TellsTime, TellsState}
 use Rattle.set_state.specs.declared.state.Request.{Request}
-use Rattle.set_state.specs.declared.state.Request.the-variants.{OfLink, OnChannel, Foreign}
+use Rattle.set_state.specs.declared.state.Request.the-variants.{OfLink, OnChannel, AnswersRing, Foreign}
 use Rattle.set_rules.specs.Entries.{readEntry, telegramIn, planIn}
 use Rattle.set_rules.specs.Plan.{deskCount, channelCount, channelsPart, channelsIn, planOk, setOf}
-use Rattle.set_rules.specs.Refusals.{askedIn, phaseOf, named, mayUse, lookupIn, channelIn, refusalOf}
+use Rattle.set_rules.specs.Refusals.{askedIn, phaseOf, named, mayUse, lookupIn, channelIn, numberIn, calledPlace, refusalOf}
 use Rattle.set_rules.specs.Records.{Delivery, delivered}
-use Rattle.set_rules.specs.SetRules.{Effect, movedIn, onChannel, sendsOf, ticked, tickSends, endSends, onTick, onHandover, onPlan, onRequest, numberIn, ways, accepted}
+use Rattle.set_rules.specs.SetRules.{Effect, movedIn, onChannel, sendsOf, ticked, tickSends, endSends, onTick, onHandover, onPlan, answersIn, onRequest, ways, acceptedBy, accepted}
 use Rattle.set_rules.specs.Feeds.{Item, stepBy, after, cutUp, writtenIn}
 use Rattle.set_rules.specs.Letters.{letterFor, lettersTo, lettersOf, lettersIn}
 use Rattle.set_rules.specs.Invariant.{SetOk, Shaped, aroundOf, AllAmong}
-use Rattle.set_rules.specs.Promises.{Right, Brings, AlwaysAmong, servedBy, ToldRight}
-use Rattle.set_rules.proofs.Rows.{NoRow, no-row}
-use Rattle.set_rules.proofs.Readable.{AskedOk, at-ok, planned-ok, plan-kept, pressOf, press-fits, asked-ok, always-ok, readable}
+use Rattle.set_rules.specs.Promises.{Right, BringsNumber, Brings, AlwaysAmong, servedBy, ToldRight}
+use Rattle.set_rules.proofs.Rows.{NoRow, no-row, row-finds}
+use Rattle.set_rules.proofs.Asked.{OnEvent, asked-in, answer-rings}
+use Rattle.set_rules.proofs.Readable.{AskedOk, at-ok, planned-ok, plan-kept, pressOf, entry-fits, asked-ok, always-ok, readable}
 use Rattle.set_rules.proofs.Shape.{first-in, plan-shaped, found, always-shaped}
 use Rattle.set_rules.proofs.Answers.{refused, accepted-after, step-keeps, after-append}
-use Rattle.set_rules.proofs.Among.{only-is, place-code, Found, rising-found, running-in, own-linked, runsAt, runs-linked, among-more, Heard, Tells, sends-heard, OnEvent, asked-in}
+use Rattle.set_rules.proofs.Among.{only-is, place-code, Found, rising-found, running-in, own-linked, runsAt, runs-linked, among-more, Heard, Tells, sends-heard}
 
 -- ---- effects
 
@@ -172,7 +174,8 @@ module _ (M : Number → Type 0) (s : LineSet) (ok : SetOk s) (shaped : Shaped s
   in-phase d k p n = ne-eqb _ 3 (λ q. n (sym p ∙ q))
 
   request-tells : (d : ℕ) (q : Request) → OnEvent (FitsBy d) q → d < s .size .desks → getD (s .desks) d noDesk .link .phase ≡ phaseOf q
-      → named true (λ ch n. mayUse (lookupIn s (channelIn q)) d) q ≡ true → Tells M s (onRequest s d q)
+      → named true (λ ch n. mayUse (lookupIn s (channelIn q)) d) (λ m. mayUse (lookupIn s (channelIn q)) d) q ≡ true
+      → Tells M s (onRequest (answersIn s d q) s d q)
   request-tells d (OfLink TellsTime) h l p u =
       let to-it : Heard s M (s .desks) (record { recipients = only d; content = λ j. telegram OperationRequest }) =
       λ j i. (rw (← only-is j d i) l, (refl, (tt, tt))) in
@@ -182,19 +185,26 @@ module _ (M : Number → Type 0) (s : LineSet) (ok : SetOk s) (shaped : Shaped s
       let b = both (hasChannel s ch) (isIn d (channelAt s ch .entitled)) u in
       let fits = h (channelAt s ch) ((l, eq-eqb _ 3 p), b .1) in
       on-tells ch v (b .0) (fits .0) (fits .1)
+  request-tells d (AnswersRing m) h l p u =
+      let c = channelAt s (m .channel) in
+      let b = both (hasChannel s (m .channel)) (isIn d (c .entitled)) u in
+      on-tells (m .channel) _ (b .0) (answer-rings d (ownOf (s .desks) d) m c) ((l, eq-eqb _ 3 p), b .1)
   request-tells d Foreign h l p u = record { among-after = among; sent-right = tt }
 
   -- ---- every accepted entry
 
-  module _ (e : List ℕ) (x : Entry) (a : AskedOk x) (brings : x .kind ≡ 4 → M (numberIn (x .number))) (z : refusalOf s e x ≡ 0) where
+  module _ (e : List ℕ) (x : Entry) (a : AskedOk x) (brings : BringsNumber x → M (numberIn (x .number))) (z : refusalOf s e x ≡ 0) where
     rows : NoRow s e x
     rows = no-row s e x z
 
-    telegram-tells : x .kind ≡ 1 → Tells M s (onRequest s (x .desk) (askedIn (x .desk) (readTelegram (telegramIn e))))
+    abbrev asked : Request
+    asked = askedIn (x .desk) (readTelegram (telegramIn e))
+
+    telegram-tells : x .kind ≡ 1 → Tells M s (onRequest (answersIn s (x .desk) asked) s (x .desk) asked)
     telegram-tells k =
         let d = x .desk in
         let r = readTelegram (telegramIn e) in
-        request-tells d (askedIn d r) (asked-in (FitsBy d) d (λ c l. (tt, l)) (λ c l. (tt, l)) r)
+        request-tells d asked (asked-in (FitsBy d) d (λ c l. (tt, l)) (λ c l. (tt, l)) r)
         (ltb-true _ _ (not-false _ (rw k at (rows .row7-fails))))
         (eqb-true _ _ (not-false _ (rw k at (rows .row11-fails))))
         (not-false _ (rw k at (rows .row12-fails)))
@@ -203,6 +213,10 @@ module _ (M : Number → Type 0) (s : LineSet) (ok : SetOk s) (shaped : Shaped s
     press-among : (t : Bool) (c : Channel) → FitsAmong around (pressOf s x t) c
     press-among true c = refl
     press-among false c = tt
+
+    -- the desk that a mobile calls is a running entitled one
+    called-listens : x .kind ≡ 9 → Listens around (channelAt s (x .channel)) (calledPlace (s .desks) (s .size .desks) (x .called))
+    called-listens k = all-listen (channelAt s (x .channel)) _ (row-finds s e x z .call-heard k)
 
     -- by the set served: an entry other than a plan finds one, and a plan finds none (rows 4 and 5)
     abbrev TellsFor : Effect → Type 0
@@ -224,17 +238,21 @@ module _ (M : Number → Type 0) (s : LineSet) (ok : SetOk s) (shaped : Shaped s
         go false n = plan-tells M (planIn e) (plan-kept s e x z k)
 
     pub accepted-tells : TellsFor (accepted s e x)
-    unfolding accepted
+    unfolding acceptedBy accepted
     accepted-tells =
-        pick-each TellsFor (x .kind) _ (ways s e x) (record { among-after = among; sent-right = tt })
+        let fits = entry-fits s ok e x a z in
+        let on = on-tells (x .channel) in
+        pick-each TellsFor (x .kind) _ (ways (answersIn s (x .desk) asked) s e x) (record { among-after = among; sent-right = tt })
         ((λ k. served _ (rw k) (telegram-tells k))
-        ▹ (λ k. served _ (rw k) (on-tells (x .channel) _ (found s e x z 2 refl refl k) (press-fits s ok e x (a .on-ok) z k) (press-among (eqb (x .on) 1) _)))
-        ▹ (λ k. served _ (rw k) (on-tells (x .channel) Cut (found s e x z 3 refl refl k) tt tt))
-        ▹ (λ k. served _ (rw k) (on-tells (x .channel) _ (found s e x z 4 refl refl k) (a .base-ok, a .number-ok) (brings k)))
-        ▹ (λ k. served _ (rw k) (on-tells (x .channel) MobileOff (found s e x z 5 refl refl k) tt tt))
+        ▹ (λ k. served _ (rw k) (on _ (found s e x z 2 refl refl k) (fits .press-fits k) (press-among (eqb (x .on) 1) _)))
+        ▹ (λ k. served _ (rw k) (on Cut (found s e x z 3 refl refl k) (fits .cut-fits k) tt))
+        ▹ (λ k. served _ (rw k) (on _ (found s e x z 4 refl refl k) (fits .on-fits k) (brings (inl k))))
+        ▹ (λ k. served _ (rw k) (on MobileOff (found s e x z 5 refl refl k) (fits .off-fits k) tt))
         ▹ (λ k. served _ (rw k) tick-tells)
         ▹ made
         ▹ (λ k. served _ (rw k) handover-tells)
+        ▹ (λ k. served _ (rw k) (on _ (found s e x z 9 refl refl k) (fits .ring-fits k) (called-listens k, brings (inr k))))
+        ▹ (λ k. served _ (rw k) (on Cancel (found s e x z 10 refl refl k) (fits .cancel-fits k) tt))
         ▹ tt)
 
 -- ---- every entry, every feed

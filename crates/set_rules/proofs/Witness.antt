@@ -1,60 +1,112 @@
--- Isolation speaks of something: two different feeds that are related, in which desk 1 receives records. So does the row of the ticks.
+-- Isolation speaks of something: two different feeds that are related, in which desk 1 receives records; and it needs its condition on
+-- ring answers. The row of the ticks speaks of something too.
 -- Assumes nothing.
 use Prim.Native.Nat.{ℕ}
-use mathlib.Core.List.{List, [], _∷_}
+use mathlib.Core.List.{List, [], _∷_, map}
 use mathlib.Core.Path.{_≡_, refl, ap}
 use native.Mathlib.Omega.{arith}
 use lib.Count.{onesIn}
 use lib.ListN.{getD}
 use Rattle.numerals.specs.Digits.{digitsOf, allDigits, valueFrom}
+use Rattle.numerals.specs.declared.digits.Digits.{Digits}
 use Rattle.fields.specs.Fields.{bodyOk, valuesIn, bytesOf}
 use Rattle.telegram.specs.Telegram.{headerOk, readTelegram, telegramOf}
 use Rattle.channel.specs.State.{isIn}
-use Rattle.line_rules.specs.Rules.{capture, pressOn, pressOff, mobileOn, tick, tickIdle, tickQuiet, tickRelease, happens}
-use Rattle.set_state.specs.State.{placeOf, runningFrom}
+use Rattle.line_rules.specs.Rules.{capture, pressOn, pressOff, mobileOn, ring, answered, ringAnswer, tick, tickIdle, tickQuiet, tickRelease, happens}
+use Rattle.set_state.specs.State.{newSet, placeOf, runningFrom, deskPlace}
+use Rattle.set_state.specs.declared.state.LineSet.{LineSet}
 use Rattle.laws.specs.Table.{pick}
 use Rattle.set_rules.specs.Entries.{readEntry}
 use Rattle.set_rules.specs.Plan.{desksOk, desksIn, hasNumber, distinct, channelsOk, channelsIn, planOk, setOf}
-use Rattle.set_rules.specs.Refusals.{firstOf, refusalOf}
+use Rattle.set_rules.specs.Refusals.{numberIn, firstOf, refusalOf}
 use Rattle.set_rules.specs.Records.{delivered, toEach, recordsOf, spaceOf}
-use Rattle.set_rules.specs.SetRules.{onChannel, sendsOf, onTick, accepted}
+use Rattle.set_rules.specs.SetRules.{onChannel, sendsOf, onTick, acceptedBy, accepted}
 use Rattle.set_rules.specs.Feeds.{Item, outcomeOf, stepOf, run, after, cutUp, ofDesk, views, Seen}
-use Rattle.set_rules.specs.Spelling.{spelled, entryOf, lent}
-use Rattle.set_rules.specs.Promises.{same, talks, ended, more, Renumbered}
-use Rattle.set_rules.specs.Witness.{Speaks, TicksMet}
+use Rattle.set_rules.specs.Spelling.{spelled, entryOf, lent, bothRunning, callEntry, ringAnswerEntry}
+use Rattle.set_rules.specs.Promises.{Renumbered, OtherSource, MayDiffer, same, talks, calls-other, other-answers, Alike, ended, more}
+use Rattle.set_rules.specs.Witness.{Speaks, SpeaksOfRings, AgreementNeeded, TicksMet}
 
-renumbered : Renumbered (entryOf 4 (7 ∷ 3 ∷ digitsOf 8 990007)) (entryOf 4 (7 ∷ 3 ∷ digitsOf 8 990008))
-unfolding digitsOf allDigits valueFrom
-renumbered = record { kind-is = refl; bytes = record { long = refl; front = refl; back = refl }; callers = λ z. refl }
+-- an entry before one set is alike to itself
+alone : (s : LineSet) (e : List ℕ) → Alike 1 s s e e
+alone s e = record { may = same refl; agree = λ o c. refl }
 
 other : _≡_ {A = ℕ} 0 1 → ⊥
 other p = omega arith
 
--- the last byte of the seventh entry
-last : List Item → ℕ
-last f = getD (getD f 6 (lent []) .entry) 13 0
+-- the last digit of the mobile's number in the n-th entry
+lastIn : ℕ → List Item → ℕ
+lastIn n f = getD (getD f n (lent []) .entry) 13 0
 
--- the last digit of the number in the 550464 that the seventh entry sends: behind a contact of 8 bytes and 5, 16 and 14 more
-learnt : List Seen → ℕ
-learnt vs = getD (getD vs 6 (record { refusal = 0; count = 0; records = [] }) .records) 43 0
+-- a byte of what a desk receives of the n-th entry
+learnt : ℕ → ℕ → List Seen → ℕ
+learnt n i vs = getD (getD vs n (record { refusal = 0; count = 0; records = [] }) .records) i 0
 
+-- ---- a mobile talks under desk 0
+
+talk-alike : Renumbered 4 (entryOf 4 (7 ∷ 3 ∷ digitsOf 8 990007)) (entryOf 4 (7 ∷ 3 ∷ digitsOf 8 990008))
+unfolding digitsOf allDigits valueFrom
+talk-alike = record { kind-is = refl; bytes = record { long = refl; front = refl; back = refl }; callers = λ z. refl }
+
+-- In what the seventh entry sends, the number of the 550464 ends behind a contact of 8 bytes and 5, 16 and 14 more.
 pub witness : Speaks
-unfolding last learnt spelled onesIn digitsOf allDigits valueFrom bodyOk valuesIn bytesOf headerOk readTelegram telegramOf isIn capture mobileOn happens placeOf runningFrom readEntry desksOk desksIn hasNumber distinct channelsOk channelsIn planOk setOf firstOf refusalOf delivered toEach recordsOf spaceOf onChannel pick accepted outcomeOf stepOf cutUp ofDesk views
+unfolding lastIn learnt spelled onesIn digitsOf allDigits valueFrom bodyOk valuesIn bytesOf headerOk readTelegram telegramOf isIn capture mobileOn happens placeOf runningFrom readEntry desksOk desksIn hasNumber distinct channelsOk channelsIn planOk setOf firstOf refusalOf delivered toEach recordsOf spaceOf onChannel pick acceptedBy accepted outcomeOf stepOf cutUp ofDesk views
 witness = record {
   related =
-      more (same refl) refl
-      (more (same refl) refl
-      (more (same refl) refl
-      (more (same refl) refl
-      (more (same refl) refl
-      (more (same refl) refl
-      (more (talks renumbered other) refl
+      more (alone _ _) refl
+      (more (alone _ _) refl
+      (more (alone _ _) refl
+      (more (alone _ _) refl
+      (more (alone _ _) refl
+      (more (alone _ _) refl
+      (more (record { may = talks talk-alike other; agree = λ o c. refl }) refl
       ended))))));
-  differ = λ p. let q : _≡_ {A = ℕ} 55 56 = ap last p in omega arith;
+  differ = λ p. let q : _≡_ {A = ℕ} 55 56 = ap (lastIn 6) p in omega arith;
   receives = refl;
-  learns = λ p. let q : _≡_ {A = ℕ} 55 56 = ap learnt p in omega arith;
+  learns = λ p. let q : _≡_ {A = ℕ} 55 56 = ap (learnt 6 43) p in omega arith;
 }
 
+-- ---- a mobile rings desk 0
+
+call-alike : Renumbered 9 (callEntry 990007) (callEntry 990008)
+unfolding digitsOf allDigits valueFrom
+call-alike = record { kind-is = refl; bytes = record { long = refl; front = refl; back = refl }; callers = λ z. refl }
+
+answer-alike : OtherSource 1 (ringAnswerEntry 990007) (ringAnswerEntry 990008)
+unfolding spelled digitsOf allDigits valueFrom
+answer-alike = record { kind-is = refl; other = other; identifier = refl; bytes = record { long = refl; front = refl; back = refl }; digits = refl }
+
+call-may : MayDiffer 1 (after newSet (map lent bothRunning)) (callEntry 990007) (callEntry 990008)
+unfolding spelled onesIn digitsOf allDigits valueFrom bodyOk valuesIn bytesOf headerOk readTelegram telegramOf isIn placeOf runningFrom readEntry desksOk desksIn hasNumber distinct channelsOk channelsIn planOk setOf firstOf refusalOf delivered toEach recordsOf spaceOf pick acceptedBy accepted outcomeOf stepOf after
+call-may = calls-other call-alike (λ i p. let q : _≡_ {A = ℕ} 120001 130001 = ap (λ (d : Digits). numberIn d .digits) p in omega arith)
+
+-- In what the sixth entry sends, the number of the 550468 ends behind a contact of 8 bytes and 5, 16 and 12 more.
+pub rings-witness : SpeaksOfRings
+unfolding lastIn learnt spelled onesIn digitsOf allDigits valueFrom bodyOk valuesIn bytesOf headerOk readTelegram telegramOf isIn ring answered ringAnswer happens placeOf runningFrom deskPlace readEntry desksOk desksIn hasNumber distinct channelsOk channelsIn planOk setOf firstOf refusalOf delivered toEach recordsOf spaceOf onChannel pick acceptedBy accepted outcomeOf stepOf after cutUp ofDesk views
+rings-witness = record {
+  related =
+      more (alone _ _) refl
+      (more (alone _ _) refl
+      (more (alone _ _) refl
+      (more (alone _ _) refl
+      (more (alone _ _) refl
+      (more (record { may = call-may; agree = λ o c. refl }) refl
+      (more (record { may = other-answers answer-alike; agree = λ o c. refl }) refl
+      ended))))));
+  differ = λ p. let q : _≡_ {A = ℕ} 55 56 = ap (lastIn 5) p in omega arith;
+  receives = refl;
+  learns = λ p. let q : _≡_ {A = ℕ} 55 56 = ap (learnt 5 41) p in omega arith;
+}
+
+-- With the same answer the second feed's is a wrong one: desk 1 receives the 550651 in the first alone.
+pub agreement-needed : AgreementNeeded
+unfolding learnt spelled onesIn digitsOf allDigits valueFrom bodyOk valuesIn bytesOf headerOk readTelegram telegramOf isIn ring answered ringAnswer happens placeOf runningFrom deskPlace readEntry desksOk desksIn hasNumber distinct channelsOk channelsIn planOk setOf firstOf refusalOf delivered toEach recordsOf spaceOf onChannel pick acceptedBy accepted outcomeOf stepOf cutUp ofDesk views
+agreement-needed = record {
+  may = call-may;
+  told = λ p. let q : _≡_ {A = ℕ} 1 0 = ap (learnt 6 2) p in omega arith;
+}
+
+-- ---- the ticks
+
 pub ticks-met : TicksMet
-unfolding spelled onesIn digitsOf allDigits valueFrom bodyOk valuesIn bytesOf headerOk readTelegram telegramOf isIn capture pressOn pressOff tick tickIdle tickQuiet tickRelease happens placeOf runningFrom readEntry desksOk desksIn hasNumber distinct channelsOk channelsIn planOk setOf firstOf refusalOf delivered toEach recordsOf spaceOf onChannel sendsOf onTick pick accepted outcomeOf stepOf run after
+unfolding spelled onesIn digitsOf allDigits valueFrom bodyOk valuesIn bytesOf headerOk readTelegram telegramOf isIn capture pressOn pressOff tick tickIdle tickQuiet tickRelease happens placeOf runningFrom readEntry desksOk desksIn hasNumber distinct channelsOk channelsIn planOk setOf firstOf refusalOf delivered toEach recordsOf spaceOf onChannel sendsOf onTick pick acceptedBy accepted outcomeOf stepOf run after
 ticks-met = record { one = refl; held = refl; alone = refl; let-go = refl; taken = refl }
