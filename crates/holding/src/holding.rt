@@ -62,6 +62,7 @@ fn captured(listeners: u8, d: u8, channel: Channel) -> Moved
             presser,
             quiet: channel.quiet,
             release: Channel::RELEASE,
+            ring: channel.ring,
             call,
             arrival,
         },
@@ -69,12 +70,19 @@ fn captured(listeners: u8, d: u8, channel: Channel) -> Moved
     }
 }
 
+// While a mobile rings nobody gets the channel.
 pub fn capture(listeners: u8, d: u8, channel: Channel) -> Moved
     ensures { λ r. ⌜ Follows r (capture listeners d channel) ⌝ }
 {
     let holder = channel.holder;
     match holder {
-        Party::Nobody => captured(listeners, d, channel),
+        Party::Nobody => {
+            if 0 < channel.ring {
+                replied(d, 1, channel)
+            } else {
+                captured(listeners, d, channel)
+            }
+        }
         Party::By(h) => {
             if h == d {
                 replied(d, 0, channel)
@@ -106,6 +114,7 @@ fn cut_after(first: Send, listeners: u8, channel: Channel) -> Moved
             presser: Party::Nobody,
             quiet: 0,
             release: 0,
+            ring: channel.ring,
             call: Call::Closed,
             arrival: stays,
         },

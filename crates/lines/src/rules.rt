@@ -7,11 +7,15 @@ use channel::is_held;
 use holding::capture;
 use holding::cut;
 use holding::release;
+use rings::ring;
+use rings::ring_answer;
+use rings::unanswered;
 use sends::SILENT;
 use sends::end;
 use sends::freed;
 use sends::mobile_off_sends;
 use sends::press_sends;
+use sends::ring_off_sends;
 use sends::set_if;
 use sends::set_of;
 use talk::mobile_off;
@@ -42,19 +46,22 @@ fn end_talk(channel: Channel) -> Moved
     }
 }
 
-// The call ends, and the channel is free.
+// The ring, the call and the hold end.
 fn end_call(listeners: u8, channel: Channel) -> Moved
     ensures { λ r. ⌜ Follows r (endCall listeners channel) ⌝ }
 {
     let holder = channel.holder;
     let call = channel.call;
+    let off = ring_off_sends(0 < channel.ring, call);
+    let incoming = off.incoming;
+    let result = off.result;
     let end = end(2, call);
     let recipients = set_if(is_held(holder), listeners);
     let state = freed(recipients, holder);
     let next = Channel::new(channel.code, channel.entitled);
     Moved {
         next,
-        sends: [end, state, SILENT, SILENT, SILENT, SILENT, SILENT],
+        sends: [incoming, result, end, state, SILENT, SILENT, SILENT],
     }
 }
 
@@ -70,6 +77,9 @@ pub fn happens(event: Event, listeners: u8, channel: Channel) -> Moved
         Event::PressOff => press_off(channel),
         Event::MobileOn { base, number } => mobile_on(listeners, base, number, channel),
         Event::MobileOff => mobile_off(channel),
+        Event::Ring { desk, base, number } => ring(desk, base, number, channel),
+        Event::Cancel => unanswered(2, channel),
+        Event::RingAnswer { desk, matched } => ring_answer(listeners, desk, matched, channel),
         Event::Tick => tick(listeners, channel),
         Event::EndTalk => end_talk(channel),
         Event::EndCall => end_call(listeners, channel),

@@ -1,50 +1,47 @@
-// What a tick sends, when a timer runs out.
+// What a tick does, and what it sends when a timer runs out.
 use channel::Channel;
 use channel::Falling;
 use channel::Moved;
-use channel::Send;
+use rings::unanswered;
 use sends::SILENT;
 use sends::alone;
 use sends::end;
 use sends::freed;
 use timers::falls;
+use timers::run_out;
 use timers::ticked;
-ghost use mathlib.Core.Path.{_≡_};
-ghost use mathlib.Core.List.{[], _∷_};
 ghost use Rattle.line_rules.specs.Rules.{tick};
 ghost use Rattle.timers.specs.Falls.{runOut};
-ghost use Rattle.sends.specs.Scripts.{Follows, heard};
+ghost use Rattle.sends.specs.Scripts.{Follows};
 
-// What is sent when a timer runs out.
-fn run_out_send(listeners: u8, channel: Channel) -> Send
-    ensures { λ r. ⌜ heard (r ∷ []) ≡ heard (runOut listeners channel .sends) ⌝ }
+// A timer runs out: the ring ends, or the call, or the hold.
+fn due(listeners: u8, channel: Channel) -> Moved
+    ensures { λ r. ⌜ Follows r (runOut listeners channel) ⌝ }
 {
+    if 0 < channel.ring {
+        return unanswered(5, channel);
+    }
     let call = channel.call;
     let holder = channel.holder;
+    let next = run_out(channel);
     if 0 < channel.quiet {
-        end(3, call)
+        let end = end(3, call);
+        alone(next, end)
     } else {
-        freed(listeners, holder)
-    }
-}
-
-// What a tick sends.
-fn tick_send(listeners: u8, channel: Channel) -> Send
-    ensures { λ r. ⌜ heard (r ∷ []) ≡ heard (tick listeners channel .sends) ⌝ }
-{
-    let falling = falls(channel);
-    match falling {
-        Falling::Neither => SILENT,
-        Falling::Quiet(_) => SILENT,
-        Falling::Release(_) => SILENT,
-        Falling::Due => run_out_send(listeners, channel),
+        let state = freed(listeners, holder);
+        alone(next, state)
     }
 }
 
 pub fn tick(listeners: u8, channel: Channel) -> Moved
     ensures { λ r. ⌜ Follows r (tick listeners channel) ⌝ }
 {
-    let send = tick_send(listeners, channel);
-    let next = ticked(channel);
-    alone(next, send)
+    let falling = falls(channel);
+    match falling {
+        Falling::Still | Falling::Ring(_) | Falling::Quiet(_) | Falling::Release(_) => {
+            let next = ticked(channel);
+            alone(next, SILENT)
+        }
+        Falling::Due => due(listeners, channel),
+    }
 }

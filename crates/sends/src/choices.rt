@@ -6,8 +6,15 @@ ghost use mathlib.Core.Path.{_≡_};
 ghost use mathlib.Core.Bool.{cond};
 ghost use Rattle.line_rules.specs.Rules.{partySet, isOpen, kindOf};
 
-// The type of every call (01: "Type is always 1").
+// The types of calls: one that talk opens, and one in which a mobile rings one desk.
 pub const GENERAL: u8 = 1;
+
+pub const INDIVIDUAL: u8 = 3;
+
+// The directions of calls: from a desk, and from a mobile.
+pub const DOWN: u8 = 1;
+
+pub const UP: u8 = 2;
 
 // The empty set.
 pub const NOBODY: u8 = 0;

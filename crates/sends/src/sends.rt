@@ -2,6 +2,7 @@
 use super::choices::GENERAL;
 use super::choices::NOBODY;
 use super::choices::kind_of;
+use super::choices::set_if;
 use channel::Arrival;
 use channel::Call;
 use channel::Channel;
@@ -14,7 +15,7 @@ use telegram::Number;
 ghost use mathlib.Core.Path.{_≡_};
 ghost use mathlib.Core.List.{[], _∷_};
 ghost use Rattle.channel.specs.State.{holderPlace};
-ghost use Rattle.line_rules.specs.Rules.{step, to, callSends, openingSends, endOf, mobileOffSends};
+ghost use Rattle.line_rules.specs.Rules.{step, to, sentIf, callSends, startOf, openingSends, endOf, mobileOffSends, ringOffSends};
 ghost use Rattle.sends.specs.Scripts.{Follows, heard, pressSends, mobileSends};
 ghost use Rattle.channel.specs.declared.state.Notice.the-variants.{CaptureState};
 
@@ -48,6 +49,13 @@ fn of_call(start: u8, reason: u8, call: Call) -> Send
             },
         },
     }
+}
+
+// The start of a call, if one is open.
+pub fn start(call: Call) -> Send
+    ensures { λ r. ⌜ heard (r ∷ []) ≡ heard (startOf call) ⌝ }
+{
+    of_call(1, 0, call)
 }
 
 // The start that goes with `opened_by`: none while a call is open.
@@ -137,6 +145,37 @@ pub fn mobile_off_sends(arrival: Arrival) -> MobileSends
             base,
             number,
         } => mobile_sends(0, kind, base, number, recipients),
+    }
+}
+
+// What is sent to the desk that a mobile rang and that did not answer.
+pub struct RingSends {
+    pub incoming: Send,
+    pub result: Send,
+}
+
+// What ends a ring, if a mobile rings: its call was told to the called desk.
+pub fn ring_off_sends(ringing: bool, call: Call) -> RingSends
+    ensures { λ r. ⌜ heard (r .incoming ∷ r .result ∷ []) ≡ heard (sentIf ringing (ringOffSends call)) ⌝ }
+{
+    match call {
+        Call::Closed => RingSends {
+            incoming: SILENT,
+            result: SILENT,
+        },
+        Call::Open { recipients, .. } => {
+            let called = set_if(ringing, recipients);
+            RingSends {
+                incoming: Send {
+                    recipients: called,
+                    notice: Notice::Incoming { on: 0 },
+                },
+                result: Send {
+                    recipients: called,
+                    notice: Notice::CallResult { result: 0 },
+                },
+            }
+        }
     }
 }
 

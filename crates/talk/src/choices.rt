@@ -15,10 +15,6 @@ ghost use Rattle.channel.specs.State.{isHeld, isPresent};
 ghost use Rattle.line_rules.specs.Rules.{quietTime, releaseTime, general, isOpen, openedBy, mobileRecipients};
 ghost use Rattle.channel.specs.declared.state.Call.the-variants.{Open};
 
-pub const DOWN: u8 = 1;
-
-pub const UP: u8 = 2;
-
 // The base of what a desk says.
 pub const DESK: u16 = 999;
 

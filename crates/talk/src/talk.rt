@@ -1,7 +1,5 @@
 // Talk on a channel: the rules for a desk's press and for a mobile.
 use super::choices::DESK;
-use super::choices::DOWN;
-use super::choices::UP;
 use super::choices::mobile_recipients;
 use super::choices::new_call;
 use super::choices::opened_by;
@@ -13,7 +11,9 @@ use channel::Channel;
 use channel::Moved;
 use channel::Party;
 use channel::only;
+use sends::DOWN;
 use sends::SILENT;
+use sends::UP;
 use sends::kind_of;
 use sends::mobile_off_sends;
 use sends::mobile_sends;
@@ -47,6 +47,7 @@ pub fn press_on(d: u8, number: Number, channel: Channel) -> Moved
             presser: Party::By(d),
             quiet,
             release: Channel::RELEASE,
+            ring: channel.ring,
             call,
             arrival,
         },
@@ -74,6 +75,7 @@ pub fn press_off(channel: Channel) -> Moved
             presser: Party::Nobody,
             quiet,
             release,
+            ring: channel.ring,
             call,
             arrival,
         },
@@ -105,6 +107,7 @@ pub fn mobile_on(listeners: u8, base: u16, number: Number, channel: Channel) -> 
             presser,
             quiet: 0,
             release: left,
+            ring: channel.ring,
             call,
             arrival: Arrival::Present {
                 kind,
@@ -139,6 +142,7 @@ pub fn mobile_off(channel: Channel) -> Moved
             presser,
             quiet,
             release,
+            ring: channel.ring,
             call,
             arrival: Arrival::Absent,
         },

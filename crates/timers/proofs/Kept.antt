@@ -1,16 +1,35 @@
 -- The promises of `specs/Promises.antt`, kept: the one module of these proofs that other crates cite.
 -- Assumes nothing.
-use mathlib.Core.Path.{refl, ap, _∙_}
+use Prim.Native.Nat.{ℕ}
+use mathlib.Core.List.{[]}
+use mathlib.Core.Path.{_≡_, refl, sym, ap, _∙_}
+use lib.Dec.{leb, ltb}
 use Rattle.laws.proofs.Tests.{cond-of}
-use Rattle.line_rules.specs.Rules.{tick}
-use Rattle.timers.specs.Falls.{falling, tickBy}
-use Rattle.timers.specs.Promises.{ByTimers, ByKnownTimers}
-use Rattle.timers.proofs.Ticks.{idle-by}
+use Rattle.channel.specs.State.{isHeld, isPresent}
+use Rattle.line_rules.specs.Rules.{isPressed, isRinging, tick, tickRing, tickIdle, tickQuiet, tickRelease}
+use Rattle.timers.specs.Falls.{falling, runOut, tickBy}
+use Rattle.timers.specs.Promises.{ByTimers, ByKnownTimers, SilentUnlessDue}
+use Rattle.timers.proofs.Ticks.{by-due}
+use Rattle.channel.specs.declared.state.Channel.{Channel}
 use Rattle.channel.specs.declared.state.Falling.{Falling}
+use Rattle.channel.specs.declared.state.Falling.the-variants.{Still, Ring, Quiet, Release, Due}
 
 pub tick-falling : ByTimers
-unfolding tick falling
-tick-falling e c = simp (cond-of (λ (f : Falling). tickBy f e c), idle-by) refl
+unfolding tick tickRing tickIdle tickQuiet tickRelease falling runOut
+tick-falling e c =
+    by-due (isRinging c) (leb (c .ring) 1) (isPressed c) (isPresent (c .arrival)) (ltb 0 (c .quiet)) (leb (c .quiet) 1)
+    (isHeld (c .holder)) (leb (c .release) 1) _ _ _ _ _ _ _
+    ∙ sym (simp (cond-of (λ (f : Falling). tickBy f e c)) refl)
 
 pub tick-by : {f : Falling} → ByKnownTimers f
 tick-by e c h = tick-falling e c ∙ ap (λ (g : Falling). tickBy g e c) h
+
+silent : (e : ℕ) (c : Channel) (f : Falling) → (f ≡ Due → ⊥) → tickBy f e c .sends ≡ []
+silent e c Still n = refl
+silent e c (Ring r) n = refl
+silent e c (Quiet q) n = refl
+silent e c (Release r) n = refl
+silent e c Due n = absurd (n refl)
+
+pub silent-unless-due : SilentUnlessDue
+silent-unless-due e c n = rw (tick-falling e c) (silent e c (falling c) n)

@@ -1,11 +1,13 @@
 -- What is promised of a tick, beside the contracts. `proofs/Kept.antt` has the proof of each under the name given with it, and
 -- is the one module of the proofs that other crates cite.
 use Prim.Native.Nat.{ℕ}
+use mathlib.Core.List.{[]}
 use mathlib.Core.Path.{_≡_}
 use Rattle.line_rules.specs.Rules.{tick}
 use Rattle.timers.specs.Falls.{falling, tickBy}
 use Rattle.channel.specs.declared.state.Channel.{Channel}
 use Rattle.channel.specs.declared.state.Falling.{Falling}
+use Rattle.channel.specs.declared.state.Falling.the-variants.{Due}
 
 -- The rule's tick goes by what it does to the timers (`tick-falling`), also where that is known (`tick-by`).
 abbrev pub ByTimers : Type 0
@@ -13,3 +15,7 @@ ByTimers = (e : ℕ) (c : Channel) → tick e c ≡ tickBy (falling c) e c
 
 abbrev pub ByKnownTimers : Falling → Type 0
 ByKnownTimers f = (e : ℕ) (c : Channel) → falling c ≡ f → tick e c ≡ tickBy f e c
+
+-- A tick sends nothing unless a timer runs out (`silent-unless-due`).
+abbrev pub SilentUnlessDue : Type 0
+SilentUnlessDue = (e : ℕ) (c : Channel) → (falling c ≡ Due → ⊥) → tick e c .sends ≡ []

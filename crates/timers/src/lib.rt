@@ -2,4 +2,5 @@
 mod timers;
 
 pub use timers::falls;
+pub use timers::run_out;
 pub use timers::ticked;

@@ -10,9 +10,10 @@ use Rattle.lines.proofs.rules.end_call.Tie as tie
 returns : tie.Need-returns
 unfolding endCall
 returns c =
-    let c₃ = c .before .before .before in (
+    let c₃ = c .before .before .before in
+    let off = c₃ .before .before .before .before .ring-off-sends .ensures in (
       c .new .ensures,
-      simp (send-by-send, heard-sentIf, sym (c₃ .before .end .ensures), c .before .freed .ensures, c .before .before .set-if .ensures, c₃ .is-held .ensures) refl,
+      simp (send-by-send, sym off, heard-sentIf, sym (c₃ .before .end .ensures), c .before .freed .ensures, c .before .before .set-if .ensures, c₃ .is-held .ensures) refl,
     )
 
 pub end-call-spec : {M : Type 1} → statement M
@@ -20,4 +21,4 @@ end-call-spec =
     tie.close
     (tie.spec
     (λ c κs. search needs) (λ c κs. search needs) (λ c κs. search needs) (λ c κs. search needs) (λ c κs. search needs)
-    returns)
+    (λ c κs. search needs) returns)

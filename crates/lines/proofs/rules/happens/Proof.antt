@@ -1,7 +1,7 @@
 -- `lines::rules::happens` meets its contract: by the cases of the event.
 -- Assumes nothing.
 use borrow.Author.Needs.{needs}
-use Rattle.line_rules.specs.Rules.{happens, pressOn, pressOff, mobileOn}
+use Rattle.line_rules.specs.Rules.{happens}
 use Rattle.lines.proofs.rules.happens.Statement.{statement}
 use Rattle.lines.proofs.rules.happens.Tie as tie
 
@@ -38,15 +38,27 @@ returns-7 c = rw (c .before .enum-told3 .given .1) (c .mobile-off .ensures)
 
 returns-8 : tie.Need-returns-8
 unfolding happens
-returns-8 c = rw (c .before .enum-told4 .given .1) (c .tick .ensures)
+returns-8 c = rw (c .before .before .event5 .given .1) (c .ring .ensures)
 
 returns-9 : tie.Need-returns-9
 unfolding happens
-returns-9 c = rw (c .before .enum-told5 .given .1) (c .end-talk .ensures)
+returns-9 c = rw (c .before .enum-told4 .given .1) (c .unanswered .ensures)
 
 returns-10 : tie.Need-returns-10
 unfolding happens
-returns-10 c = rw (c .before .enum-told6 .given .1) (c .end-call .ensures)
+returns-10 c = rw (c .before .before .event6 .given .1) (c .ring-answer .ensures)
+
+returns-11 : tie.Need-returns-11
+unfolding happens
+returns-11 c = rw (c .before .enum-told5 .given .1) (c .tick .ensures)
+
+returns-12 : tie.Need-returns-12
+unfolding happens
+returns-12 c = rw (c .before .enum-told6 .given .1) (c .end-talk .ensures)
+
+returns-13 : tie.Need-returns-13
+unfolding happens
+returns-13 c = rw (c .before .enum-told7 .given .1) (c .end-call .ensures)
 
 pub happens-spec : {M : Type 1} → statement M
 happens-spec =
@@ -55,5 +67,7 @@ happens-spec =
     (λ c. search needs) (λ c κs. search needs) (λ c. search needs) (λ c κs. search needs) enum-told
     (λ c κs. search needs) (λ c. search needs) (λ c κs. search needs) (λ c. search needs) (λ c κs. search needs)
     (λ c. search needs) (λ c κs. search needs) (λ c. search needs) (λ c κs. search needs) (λ c. search needs)
-    (λ c κs. search needs) (λ c. search needs) (λ c κs. search needs) (λ c. search needs) (λ c κs. search needs) returns
-    returns-2 returns-3 returns-4 returns-5 returns-6 returns-7 returns-8 returns-9 returns-10)
+    (λ c κs. search needs) (λ c. search needs) (λ c κs. search needs) (λ c. search needs) (λ c κs. search needs)
+    (λ c. search needs) (λ c κs. search needs) (λ c. search needs) (λ c κs. search needs) (λ c. search needs) (λ c κs. search needs)
+    returns returns-2 returns-3 returns-4 returns-5 returns-6 returns-7 returns-8 returns-9 returns-10 returns-11
+    returns-12 returns-13)
