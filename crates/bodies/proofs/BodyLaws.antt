@@ -13,13 +13,13 @@ use Rattle.numerals.specs.Digits.{digitsOf}
 use Rattle.telegram.specs.Telegram.{sizeOf, num, telegramOf}
 use Rattle.telegram.specs.declared.message.Number.{Number}
 use Rattle.telegram.specs.declared.message.Message.{Message}
-use Rattle.telegram.specs.declared.message.Message.the-variants.{CallerNotice as Notified, CaptureState as State}
+use Rattle.telegram.specs.declared.message.Message.the-variants.{RingNotice as Rung, CallerNotice as Notified, CallResult as Result, CaptureState as State}
 use Rattle.telegram.proofs.Kept.{size-most as telegram-most}
-use Rattle.telegram_forms.proofs.Kept.{put-caller, put-holder}
-use Rattle.line_rules.specs.Rules.{down}
+use Rattle.telegram_forms.proofs.Kept.{put-caller, put-holder, put-rung, put-called}
+use Rattle.line_rules.specs.Rules.{individual, down}
 use Rattle.line_rules.specs.Notices.{telegram, contact, contentFor}
 use Rattle.channel.specs.declared.state.Notice.{Notice}
-use Rattle.channel.specs.declared.state.Notice.the-variants.{PressAnswer, Incoming, BaseArrival, Call, PressNotice, CallerNotice, CaptureReply, CaptureState}
+use Rattle.channel.specs.declared.state.Notice.the-variants.{PressAnswer, Incoming, BaseArrival, Call, PressNotice, CallerNotice, CaptureReply, CaptureState, RingNotice, AnswerReply, CallResult}
 use Rattle.set_rules.specs.Records.{recordSize}
 use Rattle.bodies.specs.Bodies.{bodyFor, shapeOf, sizeIn, contentForm}
 use Rattle.bodies.specs.Promises.{AsContact, NoForm, AsTelegram, HasTelegrams, SizeIs, AtMost51}
@@ -72,6 +72,21 @@ seen (About ch (CaptureState h s)) = record {
   ends = lit≤ tt;
   numbered = λ z c d own. shown (eqb h d) (eqb h 0) ch s own z c;
 }
+seen (About ch (RingNotice n)) = record {
+  says = λ d own. Rung (record { channel = ch; kind = individual; source = n; destination = own });
+  content = λ d own. refl;
+  sized = λ d own. refl;
+  ends = lit≤ tt;
+  numbered = λ z c d own. put-rung z c _ own;
+}
+seen (About ch (AnswerReply r)) = to-all _ _ (λ d own. refl)
+seen (About ch (CallResult r)) = record {
+  says = λ d own. Result (record { channel = ch; kind = individual; result = r; destination = own });
+  content = λ d own. refl;
+  sized = λ d own. refl;
+  ends = lit≤ tt;
+  numbered = λ z c d own. put-called z c _ own;
+}
 seen TimeRequest = to-all _ _ (λ d own. refl)
 seen OperationRequest = to-all _ _ (λ d own. refl)
 
@@ -107,6 +122,9 @@ any-channel ch (PressNotice k o) = refl
 any-channel ch (CallerNotice k b n o) = refl
 any-channel ch (CaptureReply r) = refl
 any-channel ch (CaptureState h s) = refl
+any-channel ch (RingNotice n) = refl
+any-channel ch (AnswerReply r) = refl
+any-channel ch (CallResult r) = refl
 
 pub notice-size : (d : ℕ) (own : Number) (ch : ℕ) (n : Notice) → sizeIn (shapeOf (About 0 n)) ≡ recordSize (contentFor d own ch n)
 notice-size d own ch n = any-channel ch n ∙ body-size (About ch n) d own .0

@@ -1,5 +1,5 @@
 -- What a record says, and what of it is made once for all desks that it goes to.
-use Prim.Native.Nat.{ℕ}
+use Prim.Native.Nat.{ℕ, _+_}
 use mathlib.Core.List.{List}
 use mathlib.Core.Bool.{cond}
 use lib.Dec.{eqb}
@@ -11,7 +11,7 @@ use Rattle.telegram.specs.declared.message.Number.{Number}
 use Rattle.telegram.specs.declared.message.Message.the-variants.{TimeRequest as AskTime, OperationRequest as AskOperation}
 use Rattle.telegram_forms.specs.Forms.{padded}
 use Rattle.line_rules.specs.Notices.{Content, telegram, contact, contentFor}
-use Rattle.channel.specs.declared.state.Notice.the-variants.{PressAnswer, Incoming, BaseArrival, Call, PressNotice, CallerNotice, CaptureReply, CaptureState}
+use Rattle.channel.specs.declared.state.Notice.the-variants.{PressAnswer, Incoming, BaseArrival, Call, PressNotice, CallerNotice, CaptureReply, CaptureState, RingNotice, AnswerReply, CallResult}
 use Rattle.channel.specs.declared.state.Send.{Send}
 use Rattle.set_state.specs.State.{ownOf}
 use Rattle.set_rules.specs.Records.{Delivery}
@@ -45,10 +45,13 @@ shapeOf (About ch (PressAnswer on)) = Contact 1 ch on
 shapeOf (About ch (Incoming on)) = Contact 2 ch on
 shapeOf (About ch (BaseArrival k b n o)) = Telegram Nobody 37
 shapeOf (About ch (Call k d b s t r)) = Telegram Nobody 51
-shapeOf (About ch (PressNotice k o)) = Telegram Everyone 38
+shapeOf (About ch (PressNotice k o)) = Telegram (Everyone 24) 38
 shapeOf (About ch (CallerNotice k b n o)) = Telegram Nobody 38
 shapeOf (About ch (CaptureReply r)) = Telegram Nobody 25
 shapeOf (About ch (CaptureState h s)) = Telegram (Holder h) 34
+shapeOf (About ch (RingNotice n)) = Telegram (Everyone 30) 43
+shapeOf (About ch (AnswerReply r)) = Telegram Nobody 25
+shapeOf (About ch (CallResult r)) = Telegram (Everyone 22) 35
 shapeOf TimeRequest = Telegram Nobody 21
 shapeOf OperationRequest = Telegram Nobody 21
 
@@ -64,13 +67,13 @@ contentForm (contact k ch on) = replicate 46 0
 abbrev pub formOf : Body → List ℕ
 formOf b = contentForm (bodyFor 0 (num 0) b)
 
--- the own number is the 8 digits from 24 on in a 550477, from 20 on in a 550651
+-- the own number is eight digits from a place on: 24 in a 550477, 30 in a 550468, 22 in a 550480, and 20 in a 550651
 abbrev pub numberedFor : Own → ℕ → Number → List ℕ → List ℕ
 numberedFor Nobody d own t = t
-numberedFor Everyone d own t = sets t 24 (digitsOf 8 (own .digits))
+numberedFor (Everyone at) d own t = sets t at (digitsOf 8 (own .digits))
 numberedFor (Holder h) d own t = cond (eqb h d) (sets t 20 (digitsOf 8 (own .digits))) t
 
 abbrev pub ownEnd : Own → ℕ
 ownEnd Nobody = 0
-ownEnd Everyone = 32
+ownEnd (Everyone at) = at + 8
 ownEnd (Holder h) = 28

@@ -2,14 +2,20 @@
 // number belongs. A contact has none.
 use super::body::Body;
 use channel::Notice;
+use telegram::AnswerReply;
 use telegram::BaseArrival;
 use telegram::Call;
+use telegram::CallResult;
 use telegram::CallerNotice;
 use telegram::CaptureReply;
 use telegram::CaptureState;
 use telegram::Number;
+use telegram::RingNotice;
 ghost use mathlib.Core.Path.{_≡_};
 ghost use Rattle.bodies.specs.Bodies.{formOf};
+
+// The type of a call to one desk.
+const INDIVIDUAL: u32 = 3;
 
 fn base_arrival_form(ch: u8, kind: u8, base: u16, number: Number, order: u8) -> [u8; 46]
     ensures { λ r. ⌜ r ≡ formOf (Body.About ch (Notice.BaseArrival kind base number order)) ⌝ }
@@ -100,6 +106,44 @@ fn capture_state_form(ch: u8, holder: u8, state: u8) -> [u8; 46]
     telegram_forms::capture_state_form(m)
 }
 
+// Its destination is the called desk's own number.
+fn ring_notice_form(ch: u8, number: Number) -> [u8; 46]
+    ensures { λ r. ⌜ r ≡ formOf (Body.About ch (Notice.RingNotice number)) ⌝ }
+{
+    let unfilled = Number::NONE;
+    let m = RingNotice {
+        channel: ch as u32,
+        kind: INDIVIDUAL,
+        source: number,
+        destination: unfilled,
+    };
+    telegram_forms::ring_notice_form(m)
+}
+
+fn answer_reply_form(ch: u8, result: u8) -> [u8; 46]
+    ensures { λ r. ⌜ r ≡ formOf (Body.About ch (Notice.AnswerReply result)) ⌝ }
+{
+    let m = AnswerReply {
+        channel: ch as u32,
+        result: result as u32,
+    };
+    telegram_forms::answer_reply_form(m)
+}
+
+// Its destination is the called desk's own number.
+fn call_result_form(ch: u8, result: u8) -> [u8; 46]
+    ensures { λ r. ⌜ r ≡ formOf (Body.About ch (Notice.CallResult result)) ⌝ }
+{
+    let unfilled = Number::NONE;
+    let m = CallResult {
+        channel: ch as u32,
+        kind: INDIVIDUAL,
+        result: result as u32,
+        destination: unfilled,
+    };
+    telegram_forms::call_result_form(m)
+}
+
 fn notice_form(ch: u8, notice: Notice) -> [u8; 46]
     ensures { λ r. ⌜ r ≡ formOf (Body.About ch notice) ⌝ }
 {
@@ -129,6 +173,9 @@ fn notice_form(ch: u8, notice: Notice) -> [u8; 46]
         } => caller_notice_form(ch, kind, base, number, order),
         Notice::CaptureReply { result } => capture_reply_form(ch, result),
         Notice::CaptureState { holder, state } => capture_state_form(ch, holder, state),
+        Notice::RingNotice { number } => ring_notice_form(ch, number),
+        Notice::AnswerReply { result } => answer_reply_form(ch, result),
+        Notice::CallResult { result } => call_result_form(ch, result),
     }
 }
 

@@ -5,10 +5,10 @@ ghost use mathlib.Core.Path.{_≡_};
 ghost use Prim.Native.Nat.{_≤_};
 ghost use Rattle.bodies.specs.Bodies.{shapeOf, sizeIn};
 
-// Who finds the own number in a telegram.
+// Who finds the own number in a telegram: everyone at a place, or the holder of a channel in a 550651.
 pub enum Own {
     Nobody,
-    Everyone,
+    Everyone { at: usize },
     Holder(u8),
 }
 
@@ -25,6 +25,14 @@ fn plain(size: usize) -> Shape
     Shape::Telegram { own, size }
 }
 
+// A telegram with the own number of each desk, at a place.
+fn to_each(at: usize, size: usize) -> Shape
+    ensures { λ r. ⌜ r ≡ Shape.Telegram (Own.Everyone at) size ⌝ }
+{
+    let own = Own::Everyone { at };
+    Shape::Telegram { own, size }
+}
+
 // How long the record of a notice is, whichever channel it is about.
 pub fn notice_size(notice: Notice) -> usize
     ensures { λ r. ⌜ (r ≡ sizeIn (shapeOf (Body.About 0 notice))) × (r ≤ 51) ⌝ }
@@ -38,6 +46,9 @@ pub fn notice_size(notice: Notice) -> usize
         Notice::CallerNotice { .. } => 38,
         Notice::CaptureReply { .. } => 25,
         Notice::CaptureState { .. } => 34,
+        Notice::RingNotice { .. } => 43,
+        Notice::AnswerReply { .. } => 25,
+        Notice::CallResult { .. } => 35,
     }
 }
 
@@ -58,16 +69,16 @@ fn notice_shape(channel: u8, notice: Notice) -> Shape
         },
         Notice::BaseArrival { .. } => plain(size),
         Notice::Call { .. } => plain(size),
-        Notice::PressNotice { .. } => {
-            let own = Own::Everyone;
-            Shape::Telegram { own, size }
-        }
+        Notice::PressNotice { .. } => to_each(24, size),
         Notice::CallerNotice { .. } => plain(size),
         Notice::CaptureReply { .. } => plain(size),
         Notice::CaptureState { holder, .. } => {
             let own = Own::Holder(holder);
             Shape::Telegram { own, size }
         }
+        Notice::RingNotice { .. } => to_each(30, size),
+        Notice::AnswerReply { .. } => plain(size),
+        Notice::CallResult { .. } => to_each(22, size),
     }
 }
 

@@ -44,7 +44,7 @@ fn put_own(part: &mut [u8], own: Own, d: u8, number: Number)
 {
     match own {
         Own::Nobody => {}
-        Own::Everyone => telegram_copies::put_number(part, 24, number.digits),
+        Own::Everyone { at } => telegram_copies::put_number(part, at, number.digits),
         Own::Holder(holder) => {
             if holder == d {
                 telegram_copies::put_number(part, 20, number.digits);

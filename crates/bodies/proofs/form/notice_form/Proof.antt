@@ -22,5 +22,14 @@ returns-7 c = rw (c .before .before .notice5 .given .1) (c .capture-reply-form .
 returns-8 : tie.Need-returns-8
 returns-8 c = rw (c .before .before .notice6 .given .1) (c .capture-state-form .ensures)
 
+returns-9 : tie.Need-returns-9
+returns-9 c = rw (c .before .before .notice7 .given .1) (c .ring-notice-form .ensures)
+
+returns-10 : tie.Need-returns-10
+returns-10 c = rw (c .before .before .notice8 .given .1) (c .answer-reply-form .ensures)
+
+returns-11 : tie.Need-returns-11
+returns-11 c = rw (c .before .before .notice9 .given .1) (c .call-result-form .ensures)
+
 pub notice-form-spec : {M : Type 1} → statement M
-notice-form-spec = tie.close (tie.spec (λ c. search needs) (λ c. search needs) (λ c. search needs) (λ c κs. search needs) (λ c. search needs) (λ c κs. search needs) (λ c. search needs) (λ c κs. search needs) (λ c. search needs) (λ c κs. search needs) (λ c. search needs) (λ c κs. search needs) (λ c. search needs) (λ c κs. search needs) (λ c. search needs) (λ c. search needs) returns-3 returns-4 returns-5 returns-6 returns-7 returns-8)
+notice-form-spec = tie.close (tie.spec (λ c. search needs) (λ c. search needs) (λ c. search needs) (λ c κs. search needs) (λ c. search needs) (λ c κs. search needs) (λ c. search needs) (λ c κs. search needs) (λ c. search needs) (λ c κs. search needs) (λ c. search needs) (λ c κs. search needs) (λ c. search needs) (λ c κs. search needs) (λ c. search needs) (λ c κs. search needs) (λ c. search needs) (λ c κs. search needs) (λ c. search needs) (λ c κs. search needs) (λ c. search needs) (λ c. search needs) returns-3 returns-4 returns-5 returns-6 returns-7 returns-8 returns-9 returns-10 returns-11)

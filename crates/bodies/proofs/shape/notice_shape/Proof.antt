@@ -21,7 +21,7 @@ returns-4 : tie.Need-returns-4
 returns-4 c = rw (c .before .enum-told2 .given .1) (c .plain2 .ensures ∙ ap (λ (n : ℕ). Telegram Nobody n) (rw (c .before .enum-told2 .given .1) at (c .before .before .before .notice-size .ensures .0)))
 
 returns-5 : tie.Need-returns-5
-returns-5 c = rw (c .enum-told3 .given .1) (ap (λ (n : ℕ). Telegram Everyone n) (rw (c .enum-told3 .given .1) at (c .before .before .notice-size .ensures .0)))
+returns-5 c = rw (c .before .enum-told3 .given .1) (c .to-each .ensures ∙ ap (λ (n : ℕ). Telegram (Everyone 24) n) (rw (c .before .enum-told3 .given .1) at (c .before .before .before .notice-size .ensures .0)))
 
 returns-6 : tie.Need-returns-6
 returns-6 c = rw (c .before .enum-told4 .given .1) (c .plain3 .ensures ∙ ap (λ (n : ℕ). Telegram Nobody n) (rw (c .before .enum-told4 .given .1) at (c .before .before .before .notice-size .ensures .0)))
@@ -32,5 +32,14 @@ returns-7 c = rw (c .before .enum-told5 .given .1) (c .plain4 .ensures ∙ ap (�
 returns-8 : tie.Need-returns-8
 returns-8 c = rw (c .before .notice3 .given .1) (ap (λ (n : ℕ). Telegram (Holder (c .before .notice3 .given .0 .0)) n) (rw (c .before .notice3 .given .1) at (c .before .before .before .notice-size .ensures .0)))
 
+returns-9 : tie.Need-returns-9
+returns-9 c = rw (c .before .enum-told6 .given .1) (c .to-each2 .ensures ∙ ap (λ (n : ℕ). Telegram (Everyone 30) n) (rw (c .before .enum-told6 .given .1) at (c .before .before .before .notice-size .ensures .0)))
+
+returns-10 : tie.Need-returns-10
+returns-10 c = rw (c .before .enum-told7 .given .1) (c .plain5 .ensures ∙ ap (λ (n : ℕ). Telegram Nobody n) (rw (c .before .enum-told7 .given .1) at (c .before .before .before .notice-size .ensures .0)))
+
+returns-11 : tie.Need-returns-11
+returns-11 c = rw (c .before .enum-told8 .given .1) (c .to-each3 .ensures ∙ ap (λ (n : ℕ). Telegram (Everyone 22) n) (rw (c .before .enum-told8 .given .1) at (c .before .before .before .notice-size .ensures .0)))
+
 pub notice-shape-spec : {M : Type 1} → statement M
-notice-shape-spec = tie.close (tie.spec (λ c κs. search needs) (λ c. search needs) (λ c. search needs) (λ c. search needs) (λ c κs. search needs) (λ c. search needs) (λ c κs. search needs) (λ c. search needs) (λ c. search needs) (λ c κs. search needs) (λ c. search needs) (λ c κs. search needs) (λ c. search needs) returns returns-2 returns-3 returns-4 returns-5 returns-6 returns-7 returns-8)
+notice-shape-spec = tie.close (tie.spec (λ c κs. search needs) (λ c. search needs) (λ c. search needs) (λ c. search needs) (λ c κs. search needs) (λ c. search needs) (λ c κs. search needs) (λ c. search needs) (λ c κs. search needs) (λ c. search needs) (λ c κs. search needs) (λ c. search needs) (λ c κs. search needs) (λ c. search needs) (λ c. search needs) (λ c κs. search needs) (λ c. search needs) (λ c κs. search needs) (λ c. search needs) (λ c κs. search needs) returns returns-2 returns-3 returns-4 returns-5 returns-6 returns-7 returns-8 returns-9 returns-10 returns-11)
