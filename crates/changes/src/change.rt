@@ -1,17 +1,15 @@
-// What an entry about one channel changes: the channel as it is after it.
+// An event on one channel: the channel as it is after it.
 use super::lookup;
 use channel::Channel;
 use channel::Event;
 use channel::Moved;
 use set_state::Desk;
-use set_state::Entry;
-use telegram::Number;
 ghost use Prim.Native.Nat.{ℕ};
 ghost use mathlib.Core.Path.{_≡_};
 ghost use Rattle.sends.specs.Scripts.{Follows};
 ghost use Rattle.set_rules.specs.SetRules.{movedIn, onChannel};
 ghost use Rattle.set_rules.specs.Feeds.{emit};
-ghost use Rattle.changes.specs.Changes.{unchanged, InSets, AnswersTo};
+ghost use Rattle.changes.specs.Changes.{unchanged, InSets};
 
 // The channel after an entry, the bytes written, and the refusal number. A refusal changes nothing.
 pub struct Change {
@@ -20,7 +18,7 @@ pub struct Change {
     pub refusal: u8,
 }
 
-fn refuse(channel: Channel, refusal: u8) -> Change
+pub fn refuse(channel: Channel, refusal: u8) -> Change
     ensures { λ r. ⌜ r ≡ unchanged channel refusal ⌝ }
 {
     Change {
@@ -39,7 +37,7 @@ pub fn moved(desks: [Desk; 4], n: u8, event: Event, c: Channel) -> Moved
 }
 
 // An event on the channel, and its records if there is room.
-fn on_channel(desks: [Desk; 4], n: u8, event: Event, c: Channel, buffer: &mut [u8]) -> Change
+pub fn on_channel(desks: [Desk; 4], n: u8, event: Event, c: Channel, buffer: &mut [u8]) -> Change
     ensures { λ r. ⌜ ((ch : ℕ) → InSets desks n ch c (λ s. emit s (onChannel s ch event)) r (now (buffer .entry)) (now (buffer .exit))) ⌝ }
 {
     let m = moved(desks, n, event, c);
@@ -55,26 +53,4 @@ fn on_channel(desks: [Desk; 4], n: u8, event: Event, c: Channel, buffer: &mut [u
         count: need,
         refusal: 0,
     }
-}
-
-// An entry about one channel. `found` says whether the plan has the channel that it names; if not, c is any.
-pub fn change_of(
-    desks: [Desk; 4],
-    n: u8,
-    x: Entry,
-    number: Number,
-    event: Event,
-    found: bool,
-    c: Channel,
-    buffer: &mut [u8],
-) -> Change
-    ensures { λ r. ⌜ ((code : ℕ) → AnswersTo desks n x code number event found c r (now (buffer .entry)) (now (buffer .exit))) ⌝ }
-{
-    let desk = set_state::desk_at(desks, x.desk);
-    let own = desk.number;
-    let refusal = judging::judge(x, number, own, found, c);
-    if refusal != 0 {
-        return refuse(c, refusal);
-    }
-    on_channel(desks, n, event, c, buffer)
 }

@@ -5,6 +5,7 @@ use mathlib.Core.Bool.{cond}
 use lib.Dec.{eqb}
 use lib.ListN.{length}
 use Rattle.numerals.specs.declared.digits.Digits.the-variants.{Malformed}
+use Rattle.set_state.specs.Bytes.{byte}
 use Rattle.set_rules.specs.Entries.{bad, asks, payload, payloadOk}
 use Rattle.set_state.specs.declared.state.Entry.{Entry}
 
@@ -12,6 +13,10 @@ use Rattle.set_state.specs.declared.state.Entry.{Entry}
 unfoldable pub payloadIn : ℕ → List ℕ → Entry
 payloadIn k e = cond (payloadOk k e) (payload k e) (bad 3)
 
--- the same for a kind without payload
+-- the same for a kind whose payload is a channel
+unfoldable pub lineIn : ℕ → List ℕ → Entry
+lineIn k e = cond (eqb (length e) 5) (asks k 0 (byte e 4) 0 0 Malformed) (bad 3)
+
+-- and for a kind without payload
 unfoldable pub bareIn : ℕ → List ℕ → Entry
 bareIn k e = cond (eqb (length e) 4) (asks k 0 0 0 0 Malformed) (bad 3)

@@ -2,9 +2,10 @@
 use numerals::Digits;
 use set_state::Entry;
 ghost use mathlib.Core.Path.{_≡_};
+ghost use lib.Dec.{leb};
 ghost use Rattle.numerals.specs.declared.digits.Digits.the-variants.{Malformed};
 ghost use Rattle.set_rules.specs.Entries.{measured, bad, asks, readEntry};
-ghost use Rattle.entries.specs.Payloads.{payloadIn, bareIn};
+ghost use Rattle.entries.specs.Payloads.{payloadIn, lineIn, bareIn};
 
 // An entry that is refused asks for nothing.
 fn refused(number: u8) -> Entry
@@ -18,6 +19,7 @@ fn refused(number: u8) -> Entry
         on: 0,
         base: 0,
         number: Digits::Malformed,
+        called: Digits::Malformed,
     }
 }
 
@@ -33,6 +35,7 @@ fn asks(kind: u8, desk: u8, channel: u8, on: u8) -> Entry
         on,
         base: 0,
         number: Digits::Malformed,
+        called: Digits::Malformed,
     }
 }
 
@@ -68,6 +71,13 @@ fn read_cut(entry: &[u8]) -> Entry
     asks(3, entry[4], entry[5], 0)
 }
 
+// There are 30 bases.
+fn is_base(base: u8) -> bool
+    ensures { λ r. ⌜ r ≡ leb base 29 ⌝ }
+{
+    base <= 29
+}
+
 // A number that is no eight digits is refused later, by 13.
 fn read_mobile_on(entry: &[u8]) -> Entry
     ensures { λ r. ⌜ r ≡ payloadIn 4 (now (entry .entry)) ⌝ }
@@ -77,7 +87,7 @@ fn read_mobile_on(entry: &[u8]) -> Entry
     }
     let channel = entry[4];
     let base = entry[5];
-    if 29 < base {
+    if !is_base(base) {
         return refused(3);
     }
     let number = numerals::read_digits(&entry[6..14]);
@@ -89,16 +99,44 @@ fn read_mobile_on(entry: &[u8]) -> Entry
         on: 0,
         base,
         number,
+        called: Digits::Malformed,
     }
 }
 
-fn read_mobile_off(entry: &[u8]) -> Entry
-    ensures { λ r. ⌜ r ≡ payloadIn 5 (now (entry .entry)) ⌝ }
+// The mobile's number and the called one are judged later, by 13.
+fn read_mobile_call(entry: &[u8]) -> Entry
+    ensures { λ r. ⌜ r ≡ payloadIn 9 (now (entry .entry)) ⌝ }
+{
+    if entry.len() != 22 {
+        return refused(3);
+    }
+    let channel = entry[4];
+    let base = entry[5];
+    if !is_base(base) {
+        return refused(3);
+    }
+    let number = numerals::read_digits(&entry[6..14]);
+    let called = numerals::read_digits(&entry[14..22]);
+    Entry {
+        refusal: 0,
+        kind: 9,
+        desk: 0,
+        channel,
+        on: 0,
+        base,
+        number,
+        called,
+    }
+}
+
+// A mobile off or a mobile cancel: a channel.
+fn read_line(kind: u8, entry: &[u8]) -> Entry
+    ensures { λ r. ⌜ r ≡ lineIn kind (now (entry .entry)) ⌝ }
 {
     if entry.len() != 5 {
         return refused(3);
     }
-    asks(5, 0, entry[4], 0)
+    asks(kind, 0, entry[4], 0)
 }
 
 // A tick or a handover: no payload.
@@ -120,10 +158,12 @@ fn read_payload(kind: u8, entry: &[u8]) -> Entry
         2 => read_press(entry),
         3 => read_cut(entry),
         4 => read_mobile_on(entry),
-        5 => read_mobile_off(entry),
+        5 => read_line(5, entry),
         6 => read_bare(6, entry),
         7 => asks(7, 0, 0, 0),
         8 => read_bare(8, entry),
+        9 => read_mobile_call(entry),
+        10 => read_line(10, entry),
         _ => refused(3),
     }
 }

@@ -22,7 +22,7 @@ use Rattle.timers.specs.Falls.{falling, tickBy}
 use Rattle.timers.proofs.Kept.{tick-by}
 use Rattle.channel.specs.declared.state.Channel.{Channel}
 use Rattle.channel.specs.declared.state.Falling.{Falling}
-use Rattle.channel.specs.declared.state.Falling.the-variants.{Neither, Quiet, Release, Due}
+use Rattle.channel.specs.declared.state.Falling.the-variants.{Still, Ring, Quiet, Release, Due}
 use Rattle.channel.specs.declared.state.Event.the-variants.{Tick}
 use Rattle.channel.specs.declared.state.Send.{Send}
 use Rattle.records.specs.Emitting.{PutAt}
@@ -69,12 +69,13 @@ module _ (ds : List Desk) (n : ℕ) (c : Channel) {f : Falling} (h : falling c �
   unfolding happens
   moved-by = tick-by (listenersOf ds n c) c h
 
--- nothing is sent unless a timer runs out; 0, 1 and 2 are the other cases
-silent : (e : ℕ) (c : Channel) (f : Falling) → OneOf (0 ∷ 1 ∷ 2 ∷ []) (tagOf falling-type.the-type f) → tickBy f e c .sends ≡ []
-silent e c Neither o = refl
+-- nothing is sent unless a timer runs out; 0 to 3 are the other cases
+silent : (e : ℕ) (c : Channel) (f : Falling) → OneOf (0 ∷ 1 ∷ 2 ∷ 3 ∷ []) (tagOf falling-type.the-type f) → tickBy f e c .sends ≡ []
+silent e c Still o = refl
+silent e c (Ring r) o = refl
 silent e c (Quiet q) o = refl
 silent e c (Release r) o = refl
-silent e c Due o = absurd (miss (0 ∷ 1 ∷ 2 ∷ []) 3 tt o)
+silent e c Due o = absurd (miss (0 ∷ 1 ∷ 2 ∷ 3 ∷ []) 4 tt o)
 
 -- ---- the space counted
 
@@ -89,13 +90,13 @@ module _ (s : LineSet) where
   pub record Scanned (need end k : ℕ) : Type 0 where
     pub counted : Counted k need
     pub low : end ≤ k
-    pub rest : (j : ℕ) (c : Channel) → end ≤ j → j < k → At (channelsOf s) j c → falling c ≡ Neither
+    pub rest : (j : ℕ) (c : Channel) → end ≤ j → j < k → At (channelsOf s) j c → falling c ≡ Still
 
   pub scan-first : Scanned 0 0 0
   scan-first = record { counted = sum-first _ _ _; low = omega arith; rest = λ j c l h. absurd (omega arith) }
 
   module _ (k : ℕ) (c : Channel) (p : At (channelsOf s) k c) {need end : ℕ} (m : Scanned need end k) where
-    count-silent : {need′ : ℕ} (f : Falling) → falling c ≡ f → OneOf (0 ∷ 1 ∷ 2 ∷ []) (tagOf falling-type.the-type f) → need′ ≡ need → Counted (k + 1) need′
+    count-silent : {need′ : ℕ} (f : Falling) → falling c ≡ f → OneOf (0 ∷ 1 ∷ 2 ∷ 3 ∷ []) (tagOf falling-type.the-type f) → need′ ≡ need → Counted (k + 1) need′
     unfolding spaceOf delivered
     count-silent {need′} f h o e =
         let none : tickOf c ≡ [] = ap (λ (st : Step). st .sends) (moved-by (s .desks) (s .size .desks) c h) ∙ silent _ c f o in
@@ -106,16 +107,16 @@ module _ (s : LineSet) where
     anew : {need′ end′ : ℕ} → Counted (k + 1) need′ → end′ ≡ k + 1 → Scanned need′ end′ (k + 1)
     anew n e = record { counted = n; low = omega arith; rest = λ j d l h. absurd (omega arith) }
 
-    pub scan-rest : {need′ end′ : ℕ} → falling c ≡ Neither → need′ ≡ need → end′ ≡ end → Scanned need′ end′ (k + 1)
-    scan-rest {need′} {end′} h e f = record { counted = count-silent Neither h (inl refl) e; low = omega (arith, m .low); rest = at-rest }
+    pub scan-rest : {need′ end′ : ℕ} → falling c ≡ Still → need′ ≡ need → end′ ≡ end → Scanned need′ end′ (k + 1)
+    scan-rest {need′} {end′} h e f = record { counted = count-silent Still h (inl refl) e; low = omega (arith, m .low); rest = at-rest }
       where
-        at-rest : (j : ℕ) (d : Channel) → end′ ≤ j → j < k + 1 → At (channelsOf s) j d → falling d ≡ Neither
+        at-rest : (j : ℕ) (d : Channel) → end′ ≤ j → j < k + 1 → At (channelsOf s) j d → falling d ≡ Still
         at-rest j d l g q = by-test (ltb j k) (λ t. m .rest j d (omega arith) (ltb-true j k t) q) (λ t. ap falling (same t) ∙ h)
           where
             same : ltb j k ≡ false → d ≡ c
             same t = sym (q .is) ∙ ap (λ (i : ℕ). getD (channelsOf s) i noChannel) (omega (arith, ltb-false j k t)) ∙ p .is
 
-    pub scan-silent : {need′ end′ : ℕ} (f : Falling) → falling c ≡ f → OneOf (1 ∷ 2 ∷ []) (tagOf falling-type.the-type f) → need′ ≡ need → end′ ≡ k + 1 → Scanned need′ end′ (k + 1)
+    pub scan-silent : {need′ end′ : ℕ} (f : Falling) → falling c ≡ f → OneOf (1 ∷ 2 ∷ 3 ∷ []) (tagOf falling-type.the-type f) → need′ ≡ need → end′ ≡ k + 1 → Scanned need′ end′ (k + 1)
     scan-silent f h o e = anew (count-silent f h (inr o) e)
 
     pub scan-due : {need′ end′ : ℕ} (one : ℕ) → (one ≡ spaceOf (sentIn (s .desks) (s .size .desks) Tick c)) × (one ≤ 2856) → need′ ≡ need + one → end′ ≡ k + 1 → Scanned need′ end′ (k + 1)
@@ -171,7 +172,7 @@ module _ (s : LineSet) (b₀ : List ℕ) (i : ℕ) (c : Channel) (p : At (channe
         }
 
     -- a turn in which nothing is sent
-    pub silent-turn : (f : Falling) → falling c ≡ f → OneOf (0 ∷ 1 ∷ 2 ∷ []) (tagOf falling-type.the-type f)
+    pub silent-turn : (f : Falling) → falling c ≡ f → OneOf (0 ∷ 1 ∷ 2 ∷ 3 ∷ []) (tagOf falling-type.the-type f)
         → t′ ≡ withChannels (set (t .channels) i (tickBy f (listenersOf (s .desks) (s .size .desks) c) c .next)) t → b′ ≡ b → at′ ≡ at → Ticking s b₀ (i + 1) t′ b′ at′
     unfolding recordsOf delivered
     silent-turn f h o e same stays =
@@ -181,12 +182,12 @@ module _ (s : LineSet) (b₀ : List ℕ) (i : ℕ) (c : Channel) (p : At (channe
         turned _ e (ap (λ (st : Step). st .next) (sym moved)) (rw no-bytes (omega (arith, stays), same ∙ sym (written-none b at)))
 
     -- a turn that leaves the channel
-    pub kept-turn : falling c ≡ Neither → t′ ≡ t → b′ ≡ b → at′ ≡ at → Ticking s b₀ (i + 1) t′ b′ at′
-    kept-turn h e = silent-turn Neither h (inl refl) (e ∙ ap (λ (l : List Channel). withChannels l t) (sym (set-getD (t .channels) i c)) ∙ ap (λ (x : Channel). withChannels (set (t .channels) i x) t) (still c))
+    pub kept-turn : falling c ≡ Still → t′ ≡ t → b′ ≡ b → at′ ≡ at → Ticking s b₀ (i + 1) t′ b′ at′
+    kept-turn h e = silent-turn Still h (inl refl) (e ∙ ap (λ (l : List Channel). withChannels l t) (sym (set-getD (t .channels) i c)) ∙ ap (λ (x : Channel). withChannels (set (t .channels) i x) t) (still c))
 
 module _ (s : LineSet) (b₀ : List ℕ) {t : LineSet} {b : List ℕ} {at : ℕ} where
   -- channels at rest need no turn
-  rest-turns : (d i : ℕ) → i + d ≡ length (channelsOf s) → ((j : ℕ) (c : Channel) → i ≤ j → At (channelsOf s) j c → falling c ≡ Neither)
+  rest-turns : (d i : ℕ) → i + d ≡ length (channelsOf s) → ((j : ℕ) (c : Channel) → i ≤ j → At (channelsOf s) j c → falling c ≡ Still)
       → Ticking s b₀ i t b at → Ticking s b₀ (length (channelsOf s)) t b at
   rest-turns zero i e r m = subst (λ (k : ℕ). Ticking s b₀ k t b at) (omega arith) m
   rest-turns (suc d) i e r m =

@@ -12,7 +12,7 @@ use Rattle.laws.proofs.Tests.{both}
 use Rattle.laws.specs.Table.{pick}
 use Rattle.set_rules.specs.Entries.{planIn, readEntry}
 use Rattle.set_rules.specs.Refusals.{firstOf, refusalOf}
-use Rattle.set_rules.specs.SetRules.{accepted, onTick, onHandover}
+use Rattle.set_rules.specs.SetRules.{acceptedBy, accepted, onTick, onHandover}
 use Rattle.set_rules.specs.Feeds.{Gives, refuse, emit, outcomeOf, stepOf}
 use Rattle.set_state.specs.declared.state.Entry.{Entry}
 use Rattle.set_state.specs.declared.state.LineSet.{LineSet}
@@ -43,14 +43,14 @@ module _ (s : LineSet) (e : List ℕ) (x : Entry) (is : x ≡ readEntry e) where
   plan-taken r {plan} {b} k h w g = gives-as (as-step (length b)) (g .1 s e x h (could-read 7 (omega arith) k) k w)
 
   pub tick-step : (room : ℕ) → (s .planned && eqb (x .kind) 6) ≡ true → emit s (onTick s) room ≡ stepOf s e room
-  unfolding outcomeOf refusalOf firstOf accepted pick
+  unfolding outcomeOf refusalOf firstOf accepted acceptedBy pick
   tick-step room t =
       let b = both (s .planned) (eqb (x .kind) 6) t in
       let k = eqb-true (x .kind) 6 (b .1) in
       sym (rw (could-read 6 (omega arith) k, k, b .0) refl) ∙ as-step room
 
   pub handover-step : (room : ℕ) → (s .planned && eqb (x .kind) 8) ≡ true → emit s (onHandover s) room ≡ stepOf s e room
-  unfolding outcomeOf refusalOf firstOf accepted pick
+  unfolding outcomeOf refusalOf firstOf accepted acceptedBy pick
   handover-step room t =
       let b = both (s .planned) (eqb (x .kind) 8) t in
       let k = eqb-true (x .kind) 8 (b .1) in

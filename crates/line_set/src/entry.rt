@@ -51,8 +51,8 @@ pub fn step(mut set: LineSet, entry: &[u8], buffer: &mut [u8]) -> Answer
             let c = set.channels[k];
             let falling = timers::falls(c);
             match falling {
-                Falling::Neither => {}
-                Falling::Quiet(_) | Falling::Release(_) => {
+                Falling::Still => {}
+                Falling::Ring(_) | Falling::Quiet(_) | Falling::Release(_) => {
                     end = k + 1;
                 }
                 Falling::Due => {
@@ -71,7 +71,10 @@ pub fn step(mut set: LineSet, entry: &[u8], buffer: &mut [u8]) -> Answer
                 let c = set.channels[i];
                 let falling = timers::falls(c);
                 match falling {
-                    Falling::Neither => {}
+                    Falling::Still => {}
+                    Falling::Ring(left) => {
+                        set.channels[i].ring = left;
+                    }
                     Falling::Quiet(left) => {
                         set.channels[i].quiet = left;
                     }
@@ -100,12 +103,9 @@ pub fn step(mut set: LineSet, entry: &[u8], buffer: &mut [u8]) -> Answer
                 let after = a.desks;
                 set.desks = after;
             }
-            Asked::OnChannel {
-                code,
-                number,
-                event,
-            } => {
+            Asked::OfLine(request) => {
                 // The channel with the code is sought.
+                let code = requests::code_of(request);
                 let mut i = 0;
                 while i < count {
                     let c = set.channels[i];
@@ -116,7 +116,7 @@ pub fn step(mut set: LineSet, entry: &[u8], buffer: &mut [u8]) -> Answer
                 }
                 let place = places::place_below(count, i);
                 let c = set.channels[place];
-                let a = changes::change_of(desks, n, x, number, event, i < count, c, buffer);
+                let a = changes::change_of(desks, n, x, request, i < count, c, buffer);
                 written = a.count;
                 refusal = a.refusal;
                 // A refusal changes nothing, and then nothing is stored.

@@ -9,7 +9,7 @@ use Rattle.plans.specs.Planned.{planOf}
 use Rattle.set_rules.specs.Entries.{planIn}
 use Rattle.set_rules.specs.Plan.{planOk, setOf}
 use Rattle.set_rules.specs.Refusals.{firstOf, refusalOf}
-use Rattle.set_rules.specs.SetRules.{accepted, onPlan}
+use Rattle.set_rules.specs.SetRules.{acceptedBy, accepted, onPlan}
 use Rattle.set_rules.specs.Feeds.{refuse, emit, outcomeOf}
 use Rattle.set_state.specs.declared.state.Entry.{Entry}
 use Rattle.set_state.specs.declared.state.LineSet.{LineSet}
@@ -20,7 +20,7 @@ module _ (s : LineSet) (e : List ℕ) (x : Entry) (room : ℕ) (z : x .refusal �
   plan-bad o = sym (rw (z, k, h, o) refl)
 
   pub plan-good : planOk (planIn e) ≡ true → emit s (onPlan (planIn e)) room ≡ outcomeOf s e x room
-  unfolding outcomeOf refusalOf firstOf accepted pick
+  unfolding outcomeOf refusalOf firstOf accepted acceptedBy pick
   plan-good o = sym (rw (z, k, h, o) refl)
 
 -- ---- what the reader of plans answers

@@ -10,16 +10,17 @@ use lib.ListN.{length, drop, drop-of-length-le}
 use borrow.Author.Tests.{lt-ltb, leb-false, ltb-true}
 use Rattle.telegram.specs.Telegram.{rowOf}
 use Rattle.telegram.specs.declared.message.Message.{Message}
-use Rattle.telegram.specs.declared.message.Message.the-variants.{TimeNotice, OperationAnswer, TimeRequest, BaseArrival, OperationRequest, Call, CallerNotice, CaptureRequest, CaptureReply, CaptureState}
+use Rattle.telegram.specs.declared.message.Message.the-variants.{TimeNotice, RingAnswer, OperationAnswer, TimeRequest, BaseArrival, RingNotice, AnswerReply, OperationRequest, Call, CallerNotice, CallResult, CaptureRequest, CaptureReply, CaptureState}
 use Rattle.telegram.specs.declared.message.Reading.{Reading}
 use Rattle.telegram.specs.declared.message.Reading.the-variants.{Telegram, Refused}
 use Rattle.set_rules.specs.Refusals.{deskSends, codeIs, identifierIs, bodyReads, askedBy, askedIn, phaseOf}
 use Rattle.set_state.specs.declared.state.Request.{Request}
-use Rattle.set_state.specs.declared.state.Request.the-variants.{OfLink as LinkIs, OnChannel as ChannelIs, Foreign}
+use Rattle.set_state.specs.declared.state.Request.the-variants.{OfLink as LinkIs, OnChannel as ChannelIs, AnswersRing as RingIs, Foreign}
 use Rattle.requests.specs.Asking.{asking, telegramAsked, inPhase, unless}
 use Rattle.requests.specs.Promises.{ForeignRefused}
 use Rattle.requests.specs.declared.request.Asked.{Asked}
-use Rattle.requests.specs.declared.request.Asked.the-variants.{Refusal, OfLink, OnChannel}
+use Rattle.requests.specs.declared.request.Asked.the-variants.{Refusal, OfLink, OfLine}
+use Rattle.requests.specs.declared.request.LineRequest.the-variants.{OnChannel, AnswersRing}
 
 -- a desk that is there, or none that is asked for
 pub desk-there : (t : Bool) (n d : ℕ) → (t && leb n d) ≡ false → (t && not (ltb d n)) ≡ false
@@ -38,35 +39,38 @@ past-five e = go (ltb (length e) 5) refl
 asks : Request → Bool
 asks (LinkIs q) = true
 asks (ChannelIs ch n v) = true
+asks (RingIs m) = true
 asks Foreign = false
 
 sent-asks : (d : ℕ) (m : Message) → deskSends (rowOf m .id) ≡ asks (askedBy d m)
 unfolding asks
 sent-asks d (TimeNotice m) = refl
+sent-asks d (RingAnswer m) = refl
 sent-asks d (OperationAnswer m) = refl
 sent-asks d TimeRequest = refl
 sent-asks d (BaseArrival m) = refl
+sent-asks d (RingNotice m) = refl
+sent-asks d (AnswerReply m) = refl
 sent-asks d OperationRequest = refl
 sent-asks d (Call m) = refl
 sent-asks d (CallerNotice m) = refl
+sent-asks d (CallResult m) = refl
 sent-asks d (CaptureRequest m) = refl
 sent-asks d (CaptureReply m) = refl
 sent-asks d (CaptureState m) = refl
+
+-- what is asked, by a test of the phase
+in-time : (t : Bool) (a : Asked) → cond t a (Refusal 11) ≡ unless (cond (not t) 11 0) a
+in-time true a = refl
+in-time false a = refl
 
 -- a request, and the phase that it needs
 phase-form : (phase : ℕ) (q : Request)
     → inPhase phase (asking q) ≡ unless (cond (not (asks q)) 9 (cond (not (eqb phase (phaseOf q))) 11 0)) (asking q)
 unfolding asks
-phase-form phase (LinkIs q) = go (eqb phase (phaseOf (LinkIs q)))
-  where
-    go : (t : Bool) → cond t (OfLink q) (Refusal 11) ≡ unless (cond (not t) 11 0) (OfLink q)
-    go true = refl
-    go false = refl
-phase-form phase (ChannelIs ch n v) = go (eqb phase 3)
-  where
-    go : (t : Bool) → cond t (OnChannel ch n v) (Refusal 11) ≡ unless (cond (not t) 11 0) (OnChannel ch n v)
-    go true = refl
-    go false = refl
+phase-form phase (LinkIs q) = in-time (eqb phase (phaseOf (LinkIs q))) (OfLink q)
+phase-form phase (ChannelIs ch n v) = in-time (eqb phase 3) (OfLine (OnChannel ch n v))
+phase-form phase (RingIs m) = in-time (eqb phase 3) (OfLine (AnswersRing m))
 phase-form phase Foreign = refl
 
 -- the rows 8 to 11 of a telegram

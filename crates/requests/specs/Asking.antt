@@ -10,17 +10,18 @@ use Rattle.telegram.specs.declared.message.Reading.{Reading}
 use Rattle.telegram.specs.declared.message.Reading.the-variants.{Telegram, Refused}
 use Rattle.channel.specs.declared.state.Channel.{Channel}
 use Rattle.channel.specs.declared.state.Event.{Event}
-use Rattle.channel.specs.declared.state.Event.the-variants.{Cut, PressOn, PressOff, MobileOn, MobileOff}
+use Rattle.channel.specs.declared.state.Event.the-variants.{Cut, PressOn, PressOff, MobileOn, MobileOff, Ring, Cancel}
 use Rattle.set_state.specs.State.{ownOf}
 use Rattle.set_rules.specs.Entries.{telegramIn}
-use Rattle.set_rules.specs.SetRules.{numberIn}
-use Rattle.set_rules.specs.Refusals.{Lookup, Test, isKind, codeIs, identifierIs, askedBy, askedIn, phaseOf, table, firstOf}
+use Rattle.set_rules.specs.Refusals.{Lookup, Test, isKind, codeIs, identifierIs, askedBy, askedIn, phaseOf, numberIn, calledPlace, table, firstOf}
 use Rattle.set_state.specs.declared.state.Desk.{Desk}
 use Rattle.set_state.specs.declared.state.Entry.{Entry}
 use Rattle.set_state.specs.declared.state.Request.{Request}
-use Rattle.set_state.specs.declared.state.Request.the-variants.{OfLink as LinkIs, OnChannel as ChannelIs, Foreign}
+use Rattle.set_state.specs.declared.state.Request.the-variants.{OfLink as LinkIs, OnChannel as ChannelIs, AnswersRing as RingIs, Foreign}
 use Rattle.requests.specs.declared.request.Asked.{Asked}
-use Rattle.requests.specs.declared.request.Asked.the-variants.{Refusal, OfLink, OnChannel}
+use Rattle.requests.specs.declared.request.Asked.the-variants.{Refusal, OfLink, OfLine}
+use Rattle.requests.specs.declared.request.LineRequest.{LineRequest}
+use Rattle.requests.specs.declared.request.LineRequest.the-variants.{OnChannel, AnswersRing}
 
 -- what the rows go by, as the code has it
 abbrev pub seen : Bool → List Desk → ℕ → Bool → Channel → Lookup
@@ -30,10 +31,16 @@ seen planned ds n found c = record { planned = planned; desks = ds; count = n; f
 abbrev pub early : List (ℕ × Test)
 early = take 8 table
 
+-- the code of the channel that is asked about
+abbrev pub codeOf : LineRequest → ℕ
+codeOf (OnChannel ch n v) = ch
+codeOf (AnswersRing m) = m .channel
+
 -- what a request asks; one that no desk sends is 9
 abbrev pub asking : Request → Asked
 asking (LinkIs q) = OfLink q
-asking (ChannelIs ch n v) = OnChannel ch n v
+asking (ChannelIs ch n v) = OfLine (OnChannel ch n v)
+asking (RingIs m) = OfLine (AnswersRing m)
 asking Foreign = Refusal 9
 
 -- why a telegram that does not read is refused
@@ -49,19 +56,26 @@ telegramAsked d k (Refused n c i) = Refusal (unreadAs k (Refused n c i))
 abbrev pub inPhase : ℕ → Asked → Asked
 inPhase phase (Refusal n) = Refusal n
 inPhase phase (OfLink q) = cond (eqb phase (phaseOf (LinkIs q))) (OfLink q) (Refusal 11)
-inPhase phase (OnChannel ch n v) = cond (eqb phase 3) (OnChannel ch n v) (Refusal 11)
+inPhase phase (OfLine q) = cond (eqb phase 3) (OfLine q) (Refusal 11)
+
+-- a mobile's call to one of n desks
+abbrev pub ringOf : List Desk → ℕ → Entry → Event
+ringOf ds n x = Ring (calledPlace ds n (x .called)) (x .base) (numberIn (x .number))
 
 -- what an entry that is no telegram makes happen on its channel, if its desk has this number
-abbrev pub eventOf : Entry → Number → Event
-eventOf x own =
+abbrev pub eventOf : List Desk → ℕ → Entry → Number → Event
+eventOf ds n x own =
     cond (eqb (x .kind) 2) (cond (eqb (x .on) 1) (PressOn (x .desk) own) PressOff)
     (cond (eqb (x .kind) 3) Cut
     (cond (eqb (x .kind) 4) (MobileOn (x .base) (numberIn (x .number)))
-    MobileOff))
+    (cond (eqb (x .kind) 9) (ringOf ds n x)
+    (cond (eqb (x .kind) 10) Cancel
+    MobileOff))))
 
 -- what an entry asks that has no refusal up to 11
-abbrev pub askedFor : List Desk → Reading → Entry → Asked
-askedFor ds r x = cond (isKind 1 x) (asking (askedIn (x .desk) r)) (OnChannel (x .channel) (num 0) (eventOf x (ownOf ds (x .desk))))
+abbrev pub askedFor : List Desk → ℕ → Reading → Entry → Asked
+askedFor ds n r x =
+    cond (isKind 1 x) (asking (askedIn (x .desk) r)) (OfLine (OnChannel (x .channel) (num 0) (eventOf ds n x (ownOf ds (x .desk)))))
 
 abbrev pub unless : ℕ → Asked → Asked
 unless n a = cond (eqb n 0) a (Refusal n)
@@ -69,4 +83,4 @@ unless n a = cond (eqb n 0) a (Refusal n)
 unfoldable pub askedOf : Lookup → List ℕ → Entry → Asked
 askedOf v e x =
     let r : Reading = readTelegram (telegramIn e) in
-    unless (x .refusal) (unless (firstOf early v e r x) (askedFor (v .desks) r x))
+    unless (x .refusal) (unless (firstOf early v e r x) (askedFor (v .desks) (v .count) r x))

@@ -2,4 +2,6 @@
 mod request;
 
 pub use request::Asked;
+pub use request::LineRequest;
 pub use request::asked_of;
+pub use request::code_of;

@@ -8,6 +8,7 @@ use set_state::Request;
 use telegram::Message;
 use telegram::Number;
 use telegram::Reading;
+use telegram::RingAnswer;
 ghost use mathlib.Core.Path.{_≡_};
 ghost use mathlib.Core.Bool.{Bool, cond};
 ghost use Prim.Native.Nat.{ℕ, _≤_};
@@ -15,20 +16,40 @@ ghost use lib.Dec.{eqb, ltb};
 ghost use Rattle.telegram.specs.Telegram.{readTelegram};
 ghost use Rattle.telegram.specs.declared.message.Reading.the-variants.{Refused};
 ghost use Rattle.channel.specs.declared.state.Channel.{Channel};
-ghost use Rattle.set_rules.specs.Refusals.{askedBy, phaseOf};
-ghost use Rattle.set_rules.specs.SetRules.{numberIn};
-ghost use Rattle.requests.specs.Asking.{seen, asking, unreadAs, telegramAsked, inPhase, eventOf, askedOf};
+ghost use Rattle.set_rules.specs.Refusals.{askedBy, phaseOf, numberIn};
+ghost use Rattle.requests.specs.Asking.{seen, codeOf, asking, unreadAs, telegramAsked, inPhase, ringOf, eventOf, askedOf};
 
 // What an entry asks, or its refusal so far: 1 to 4, 7 to 11.
 pub enum Asked {
     Refusal(u8),
     OfLink(LinkRequest),
-    // What is to happen on the channel with a code. The number is what a telegram gives as its desk's own.
+    OfLine(LineRequest),
+}
+
+// What an entry asks of the channel with a code.
+pub enum LineRequest {
+    // What is to happen on it. The number is what a telegram gives as its desk's own.
     OnChannel {
         code: u32,
         number: Number,
         event: Event,
     },
+    // The answer to a ring, as the telegram has it.
+    AnswersRing(RingAnswer),
+}
+
+// The code of the channel that is asked about.
+pub fn code_of(request: LineRequest) -> u32
+    ensures { λ r. ⌜ r ≡ codeOf request ⌝ }
+{
+    match request {
+        LineRequest::OnChannel {
+            code,
+            number,
+            event,
+        } => code,
+        LineRequest::AnswersRing(answer) => answer.channel,
+    }
 }
 
 // A capture request's order: 1 captures, 0 releases.
@@ -48,20 +69,24 @@ fn asked_by(d: u8, message: Message) -> Asked
 {
     match message {
         Message::TimeNotice(m) => Asked::OfLink(LinkRequest::TellsTime),
+        Message::RingAnswer(m) => Asked::OfLine(LineRequest::AnswersRing(m)),
         Message::OperationAnswer(m) => Asked::OfLink(LinkRequest::TellsState { state: m.state }),
         Message::TimeRequest => Asked::Refusal(9),
         Message::BaseArrival(m) => Asked::Refusal(9),
+        Message::RingNotice(m) => Asked::Refusal(9),
+        Message::AnswerReply(m) => Asked::Refusal(9),
         Message::OperationRequest => Asked::Refusal(9),
         Message::Call(m) => Asked::Refusal(9),
         Message::CallerNotice(m) => Asked::Refusal(9),
+        Message::CallResult(m) => Asked::Refusal(9),
         Message::CaptureRequest(m) => {
             let number = m.number;
             let event = ordered(d, m.order);
-            Asked::OnChannel {
+            Asked::OfLine(LineRequest::OnChannel {
                 code: m.channel,
                 number,
                 event,
-            }
+            })
         }
         Message::CaptureReply(m) => Asked::Refusal(9),
         Message::CaptureState(m) => Asked::Refusal(9),
@@ -83,6 +108,7 @@ fn unread(code: u32, number: u32, seen: u32, identifier: u32) -> u8
     }
     match identifier {
         550411 => 10,
+        550419 => 10,
         550421 => 10,
         550600 => 10,
         _ => 9,
@@ -140,9 +166,25 @@ fn number_in(number: Digits) -> Number
     }
 }
 
-// What an entry that is no telegram makes happen, if its desk has this number.
-fn event_of(x: Entry, own: Number) -> Event
-    ensures { λ r. ⌜ r ≡ eventOf x own ⌝ }
+// A mobile that calls one of n desks.
+fn ring_of(x: Entry, desks: [Desk; 4], n: u8) -> Event
+    ensures { λ r. ⌜ r ≡ ringOf desks n x ⌝ }
+{
+    let digits = x.called;
+    let called = number_in(digits);
+    let place = set_state::desk_place(desks, n, called);
+    let digits = x.number;
+    let number = number_in(digits);
+    Event::Ring {
+        desk: place,
+        base: x.base as u16,
+        number,
+    }
+}
+
+// What an entry that is no telegram makes happen, if its desk has this number. Only a mobile call looks at the n desks.
+fn event_of(x: Entry, own: Number, desks: [Desk; 4], n: u8) -> Event
+    ensures { λ r. ⌜ r ≡ eventOf desks n x own ⌝ }
 {
     let kind = x.kind;
     match kind {
@@ -165,6 +207,8 @@ fn event_of(x: Entry, own: Number) -> Event
                 number,
             }
         }
+        9 => ring_of(x, desks, n),
+        10 => Event::Cancel,
         _ => Event::MobileOff,
     }
 }
@@ -179,26 +223,21 @@ fn link_phase(request: LinkRequest) -> u8
     }
 }
 
+// What is asked, or 11 if the link is in another phase than it needs.
+fn if_ready(ready: bool, asked: Asked) -> Asked
+    ensures { λ r. ⌜ r ≡ cond ready asked (Asked.Refusal 11) ⌝ }
+{
+    if ready { asked } else { Asked::Refusal(11) }
+}
+
 // What is asked, if the desk's link is in the phase that it needs.
 fn in_phase(phase: u8, asked: Asked) -> Asked
     ensures { λ r. ⌜ r ≡ inPhase phase asked ⌝ }
 {
     match asked {
         Asked::Refusal(_) => asked,
-        Asked::OfLink(request) => {
-            if phase == link_phase(request) {
-                asked
-            } else {
-                Asked::Refusal(11)
-            }
-        }
-        Asked::OnChannel { .. } => {
-            if phase == 3 {
-                asked
-            } else {
-                Asked::Refusal(11)
-            }
-        }
+        Asked::OfLink(request) => if_ready(phase == link_phase(request), asked),
+        Asked::OfLine(_) => if_ready(phase == 3, asked),
     }
 }
 
@@ -226,10 +265,10 @@ pub fn asked_of(x: Entry, planned: bool, entry: &[u8], desks: [Desk; 4], n: u8) 
         return Asked::Refusal(11);
     }
     let own = desk.number;
-    let event = event_of(x, own);
-    Asked::OnChannel {
+    let event = event_of(x, own, desks, n);
+    Asked::OfLine(LineRequest::OnChannel {
         code: x.channel as u32,
         number: Number::NONE,
         event,
-    }
+    })
 }

@@ -7,16 +7,13 @@ use Rattle.judging.proofs.judging.judge_ask.Statement.{statement}
 use Rattle.judging.proofs.judging.judge_ask.Tie as tie
 
 returns : tie.Need-returns
-returns c = simp (not-true (c .before .args .found) (c .if1 .taken)) refl
+returns c = simp (sym (c .before .may-use .ensures) ∙ not-true _ (c .if1 .taken)) refl
 
 returns-2 : tie.Need-returns-2
-returns-2 c = simp (not-false (c .before .before .before .args .found) (c .before .before .if1 .left), sym (c .before .is-in .ensures) ∙ not-true _ (c .if2 .taken)) refl
+returns-2 c = simp (sym (c .before .before .before .before .may-use .ensures) ∙ not-false _ (c .before .before .before .if1 .left), eq-eqb _ _ (c .if2 .taken)) refl
 
 returns-3 : tie.Need-returns-3
-returns-3 c = simp (not-false (c .before .before .before .before .before .before .args .found) (c .before .before .before .before .before .if1 .left), sym (c .before .before .before .before .is-in .ensures) ∙ not-false _ (c .before .before .before .if2 .left), eq-eqb _ _ (c .if3 .taken)) refl
-
-returns-4 : tie.Need-returns-4
-returns-4 c = simp (not-false (c .before .before .before .before .before .before .args .found) (c .before .before .before .before .before .if1 .left), sym (c .before .before .before .before .is-in .ensures) ∙ not-false _ (c .before .before .before .if2 .left), ne-eqb _ _ (c .if3 .left)) refl
+returns-3 c = simp (sym (c .before .before .before .before .may-use .ensures) ∙ not-false _ (c .before .before .before .if1 .left), ne-eqb _ _ (c .if2 .left)) refl
 
 pub judge-ask-spec : {M : Type 1} → statement M
-judge-ask-spec = tie.close (tie.spec returns (λ c κs. search needs) returns-2 returns-3 returns-4)
+judge-ask-spec = tie.close (tie.spec (λ c κs. search needs) returns returns-2 returns-3)

@@ -19,10 +19,10 @@ returns-4 : tie.Need-returns-4
 returns-4 c = simp (not-false (c .before .before .before .before .before .args .found) (c .before .before .before .before .if1 .left), eq-eqb _ _ (c .before .before .if2 .left), sym (c .before .is-caller .ensures) ∙ not-true _ (c .if4 .taken)) refl
 
 returns-5 : tie.Need-returns-5
-returns-5 c = simp (not-false (c .before .before .before .before .before .before .before .args .found) (c .before .before .before .before .before .before .if1 .left), eq-eqb _ _ (c .before .before .before .before .if2 .left), sym (c .before .before .before .is-caller .ensures) ∙ not-false _ (c .before .before .if4 .left), sym (c .before .is-present2 .ensures) ∙ c .if5 .taken) refl
+returns-5 c = rw (not-false (c .before .before .before .before .before .before .before .before .args .found) (c .before .before .before .before .before .before .before .if1 .left), eq-eqb _ _ (c .before .before .before .before .before .if2 .left), sym (c .before .before .before .before .is-caller .ensures) ∙ not-false _ (c .before .before .before .if4 .left), ← c .before .before .is-present2 .ensures, c .if5 .taken) refl
 
 returns-6 : tie.Need-returns-6
-returns-6 c = simp (not-false (c .before .before .before .before .before .before .before .args .found) (c .before .before .before .before .before .before .if1 .left), eq-eqb _ _ (c .before .before .before .before .if2 .left), sym (c .before .before .before .is-caller .ensures) ∙ not-false _ (c .before .before .if4 .left), sym (c .before .is-present2 .ensures) ∙ c .if5 .left) refl
+returns-6 c = rw (not-false (c .before .before .before .before .before .before .before .before .args .found) (c .before .before .before .before .before .before .before .if1 .left), eq-eqb _ _ (c .before .before .before .before .before .if2 .left), sym (c .before .before .before .before .is-caller .ensures) ∙ not-false _ (c .before .before .before .if4 .left), ← c .before .before .is-present2 .ensures, c .if5 .left) refl
 
 pub judge-mobile-spec : {M : Type 1} → statement M
 judge-mobile-spec =

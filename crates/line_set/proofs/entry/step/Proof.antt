@@ -11,6 +11,7 @@ use lib.ListN.{length, getD, length-map}
 use denote.Ref.{now}
 use borrow.Author.Tests.{eq-eqb, ne-eqb}
 use Rattle.laws.proofs.Lists.{part-to-end, any-default}
+use Rattle.laws.proofs.Seeking.{Sought, sought-first, sought-next, sought-found, sought-last}
 use Rattle.line_rules.specs.Rules.{happens}
 use Rattle.channel.specs.declared.state.Channel.{Channel}
 use Rattle.set_state.specs.State.{noChannel, channelsOf, placeOf}
@@ -20,14 +21,15 @@ use Rattle.set_rules.specs.SetRules.{onTick, onHandover}
 use Rattle.set_state.specs.declared.state.LineSet.{LineSet}
 use Rattle.set_rules.proofs.Kept.{space-length, gives-as, left-as-was, no-room}
 use Rattle.records.proofs.Kept.{put-first}
-use Rattle.requests.specs.Asking.{seen, askedOf}
+use Rattle.requests.specs.Asking.{seen, codeOf, askedOf}
 use Rattle.requests.specs.declared.request.Asked.{Asked}
+use Rattle.requests.specs.declared.request.LineRequest.{LineRequest}
 use Rattle.changes.specs.Changes.{Asks}
 use Rattle.changes.proofs.Kept.{refused-as, linked-as}
 use Rattle.line_set.proofs.Emission.{even-handover, settled-new, settled-old, kept}
 use Rattle.line_set.proofs.WholeSet.{as-step, plan-starts, plan-present, plan-taken, tick-step, handover-step}
 use Rattle.line_set.proofs.OneStep.{asks}
-use Rattle.line_set.proofs.Seeking.{Sought, sought-first, sought-next, sought-found, sought-last, counted}
+use Rattle.line_set.proofs.Seeking.{by-code, counted}
 use Rattle.line_set.proofs.Turns.{At, here, sum-last}
 use Rattle.line_set.proofs.Ticking.{Scanned, scan-first, scan-rest, scan-silent, scan-due, Ticking, tick-first, tick-last, here-still, due-fits, turned, silent-turn, kept-turn}
 use borrow.Author.Needs.{needs}
@@ -50,10 +52,10 @@ abbrev μ-loop2 : tie.MeasureT-loop2
 
 -- the channels passed have another code
 abbrev Inv-loop3 : tie.InvT-loop3
-Inv-loop3 entry buffer set x desks n count written refusal code number event i₀ i = Sought code (channelsOf set) i × (i ≤ count)
+Inv-loop3 entry buffer set x desks n count written refusal request code i₀ i = Sought (placeOf code) (channelsOf set) i × (i ≤ count)
 
 abbrev μ-loop3 : tie.MeasureT-loop3
-μ-loop3 entry buffer set x desks n count written refusal code number event i₀ i = count - i
+μ-loop3 entry buffer set x desks n count written refusal request code i₀ i = count - i
 
 -- ---- what every way through the code begins with: the entry is read, and the plan's channels are counted
 
@@ -200,8 +202,11 @@ loop2-again c =
       | inr d ↦ elim d [
         | inl a ↦ (silent-turn s b (l .i) _ p m _ (falls ∙ a .1 .given .1) (inr (inl refl)) (a .5) (a .4) (a .6), far, l .inv .2)
         | inr d ↦ elim d [
-          | inl a ↦ (silent-turn s b (l .i) _ p m _ (falls ∙ a .1 .given .1) (inr (inr refl)) (a .5) (a .4) (a .6), far, l .inv .2)
-          | inr a ↦ (turned s b (l .i) _ p m _ (a .8) (a .6 .ensures _) (a .9 ∙ a .3 .ensures .0, a .7 ∙ a .3 .ensures .1), far, l .inv .2)
+          | inl a ↦ (silent-turn s b (l .i) _ p m _ (falls ∙ a .1 .given .1) (inr (inr (inl refl))) (a .5) (a .4) (a .6), far, l .inv .2)
+          | inr d ↦ elim d [
+            | inl a ↦ (silent-turn s b (l .i) _ p m _ (falls ∙ a .1 .given .1) (inr (inr (inr refl))) (a .5) (a .4) (a .6), far, l .inv .2)
+            | inr a ↦ (turned s b (l .i) _ p m _ (a .8) (a .6 .ensures _) (a .9 ∙ a .3 .ensures .0, a .7 ∙ a .3 .ensures .1), far, l .inv .2)
+          ]
         ]
       ]
     ]
@@ -253,11 +258,11 @@ returns-9 c =
 
 -- ---- an entry about a channel: it is sought by its code
 
-abbrev Told : Type 0
-Told = tie.After-known-told5 Inv-loop μ-loop Inv-loop2 μ-loop2 Inv-loop3 μ-loop3
+abbrev Coded : Type 0
+Coded = tie.After-code-of Inv-loop μ-loop Inv-loop2 μ-loop2 Inv-loop3 μ-loop3
 
-abbrev code-of : Told → ℕ
-code-of c = c .before .asked3 .given .0 .0
+abbrev request-of : Coded → LineRequest
+request-of c = c .before .before .asked3 .given .0 .0
 
 loop3-holds : tie.Need-loop3-holds Inv-loop μ-loop Inv-loop2 μ-loop2 Inv-loop3 μ-loop3
 loop3-holds c = (sought-first _ _, omega arith)
@@ -265,52 +270,53 @@ loop3-holds c = (sought-first _ _, omega arith)
 loop3-again : tie.Need-loop3-again Inv-loop μ-loop Inv-loop2 μ-loop2 Inv-loop3 μ-loop3
 loop3-again c =
     let l = c .before .before .before .before .loop3 in
-    let code = code-of (c .before .before .before .before .before) in
-    let k = begun (c .before .before .before .before .before .before .before .before) in
+    let code = c .before .before .before .before .before .code-of .result in
+    let k = begun (c .before .before .before .before .before .before .before .before .before) in
     let far : l .i + 1 ≤ k .count-of .result = omega (arith, c .before .before .before .loop3-test .taken) in
     let p = channel-at k (l .i) _ (c .before .before .before .loop3-test .taken) in
-    (sought-next code (channelsOf (set-at k)) (l .i) noChannel (p .within) (ap (λ (x : Channel). eqb (x .code) code) (p .is) ∙ ne-eqb _ _ (c .if8 .left)) (l .inv .0), far)
+    (sought-next (by-code code) (channelsOf (set-at k)) (l .i) noChannel (p .within) (ap (λ (x : Channel). eqb (x .code) code) (p .is) ∙ ne-eqb _ _ (c .if8 .left)) (l .inv .0), far)
 
-sought : (c : tie.Left-loop3 Inv-loop μ-loop Inv-loop2 μ-loop2 Inv-loop3 μ-loop3) → c .before .loop3 .i ≡ placeOf (code-of (c .before .before)) (channelsOf (set-at (begun (c .before .before .before .before .before))))
+sought : (c : tie.Left-loop3 Inv-loop μ-loop Inv-loop2 μ-loop2 Inv-loop3 μ-loop3) → c .before .loop3 .i ≡ placeOf (codeOf (request-of (c .before .before))) (channelsOf (set-at (begun (c .before .before .before .before .before .before))))
 sought c =
-    let k = begun (c .before .before .before .before .before) in
+    let k = begun (c .before .before .before .before .before .before) in
     let cs = channelsOf (set-at k) in
     let l = c .before .loop3 in
-    let code = code-of (c .before .before) in
-    elim (c .loop3-test .came) [
-      | inl a ↦ sought-last code cs (l .i) (omega (arith, count-is k, a .left)) (l .inv .0)
+    let code = c .before .before .code-of .result in
+    let found : l .i ≡ placeOf code cs = elim (c .loop3-test .came) [
+      | inl a ↦ sought-last (by-code code) cs (l .i) (omega (arith, count-is k, a .left)) (l .inv .0)
       | inr a ↦
           let p = channel-at k (l .i) _ (a .0 .taken) in
-          sought-found code cs (l .i) noChannel (p .within) (ap (λ (x : Channel). eqb (x .code) code) (p .is) ∙ eq-eqb _ _ (a .3 .taken)) (l .inv .0)
-    ]
+          sought-found (by-code code) cs (l .i) noChannel (p .within) (ap (λ (x : Channel). eqb (x .code) code) (p .is) ∙ eq-eqb _ _ (a .3 .taken)) (l .inv .0)
+    ] in
+    found ∙ ap (λ (i : ℕ). placeOf i cs) (c .before .before .code-of .ensures)
 
 asked-at : (c : tie.After-place-below Inv-loop μ-loop Inv-loop2 μ-loop2 Inv-loop3 μ-loop3) (z : Channel)
-    → Asks (set-at (begun (c .before .before .before .before .before .before))) (entry-at (begun (c .before .before .before .before .before .before))) (begun (c .before .before .before .before .before .before) .before .before .read-entry .result) (code-of (c .before .before .before)) (c .before .before .before .before .asked3 .given .0 .1 .0) (c .before .before .before .before .asked3 .given .0 .1 .1 .0) (c .place-below .result)
-    (ltb (c .before .before .loop3 .i) (begun (c .before .before .before .before .before .before) .count-of .result)) (getD (set-at (begun (c .before .before .before .before .before .before)) .channels) (c .place-below .result) z)
+    → Asks (set-at (begun (c .before .before .before .before .before .before .before))) (entry-at (begun (c .before .before .before .before .before .before .before))) (begun (c .before .before .before .before .before .before .before) .before .before .read-entry .result) (request-of (c .before .before .before)) (c .place-below .result)
+    (ltb (c .before .before .loop3 .i) (begun (c .before .before .before .before .before .before .before) .count-of .result)) (getD (set-at (begun (c .before .before .before .before .before .before .before)) .channels) (c .place-below .result) z)
 asked-at c z =
-    let a = c .before .before .before .before .before .before in
+    let a = c .before .before .before .before .before .before .before in
     let k = begun a in
     let s = set-at k in
     let place = c .place-below in
-    asks s (entry-at k) _ (code-of (c .before .before .before)) _ _ _ (c .before .before .loop3 .i) (place .result) _ (read-at k) (asked-is a _ (c .before .before .before .before .asked3 .given .1)) (count-is k) (sought (c .before)) (place .ensures .0)
+    asks s (entry-at k) _ (request-of (c .before .before .before)) _ (c .before .before .loop3 .i) (place .result) _ (read-at k) (asked-is a _ (c .before .before .before .before .before .asked3 .given .1)) (count-is k) (sought (c .before)) (place .ensures .0)
     (any-default (s .channels) (place .result) noChannel z (omega (arith, long k, place .ensures .1))) (not-plan a) (a .before .if6 .left) (a .before .before .before .if4 .left)
 
 returns-10 : tie.Need-returns-10 Inv-loop μ-loop Inv-loop2 μ-loop2 Inv-loop3 μ-loop3
 returns-10 c =
     let place = c .before .before .before .before .before .before .before .before in
-    let k = begun (place .before .before .before .before .before .before) in
+    let k = begun (place .before .before .before .before .before .before .before) in
     let s = set-at k in
     gives-as (as-step s (entry-at k) _ (read-at k) (length (buffer-at k)))
-    (c .before .before .before .before .before .change-of .ensures (code-of (place .before .before .before)) (s .planned) (s .channels) (s .size .channels) (place .place-below .result) (entry-at k) (asked-at place _))
+    (c .before .before .before .before .before .change-of .ensures (s .planned) (s .channels) (s .size .channels) (place .place-below .result) (entry-at k) (asked-at place _))
 
 returns-11 : tie.Need-returns-11 Inv-loop μ-loop Inv-loop2 μ-loop2 Inv-loop3 μ-loop3
 returns-11 c =
     let place = c .before .before .before .before .before .before .before in
-    let k = begun (place .before .before .before .before .before .before) in
+    let k = begun (place .before .before .before .before .before .before .before) in
     let s = set-at k in
     kept s (entry-at k) (buffer-at k) (c .if9 .left)
     (gives-as (as-step s (entry-at k) _ (read-at k) (length (buffer-at k)))
-    (c .before .before .before .before .change-of .ensures (code-of (place .before .before .before)) (s .planned) (s .channels) (s .size .channels) (place .place-below .result) (entry-at k) (asked-at place _)))
+    (c .before .before .before .before .change-of .ensures (s .planned) (s .channels) (s .size .channels) (place .place-below .result) (entry-at k) (asked-at place _)))
 
 pub step-spec : {M : Type 1} → statement M
 step-spec =
@@ -322,10 +328,12 @@ step-spec =
     (λ c. search needs) (λ c κs. search needs) add-need (λ c. search needs) (λ c. search needs) (λ c. search needs)
     loop-again loop2-holds (λ c. search needs) (λ c. search needs) (λ c κs. search needs) (λ c. search needs)
     (λ c. search needs) (λ c. search needs) (λ c. search needs) (λ c. search needs) (λ c. search needs)
-    (λ c. search needs) (λ c. search needs) put-in-requires (λ c κs. search needs) (λ c. search needs)
-    (λ c. search needs) (λ c. search needs) (λ c. search needs) loop2-again (λ c κs. search needs) (λ c. search needs)
-    (λ c. search needs) (λ c κs. search needs) (λ c. search needs) loop3-holds (λ c. search needs) (λ c. search needs)
-    (λ c. search needs) (λ c. search needs) (λ c. search needs) loop3-again (λ c κs. search needs) (λ c. search needs)
-    (λ c. search needs) (λ c κs. search needs) (λ c. search needs) (λ c. search needs) returns (λ c. search needs) returns-2
-    (λ c. search needs) returns-3 returns-4 (λ c. search needs) returns-5 returns-6 same-length-4 returns-7 returns-8
-    (λ c. search needs) returns-9 (λ c. search needs) returns-10 (λ c. search needs) returns-11)
+    (λ c. search needs) (λ c. search needs) (λ c. search needs) (λ c. search needs) (λ c. search needs)
+    put-in-requires (λ c κs. search needs) (λ c. search needs) (λ c. search needs) (λ c. search needs)
+    (λ c. search needs) loop2-again (λ c κs. search needs) (λ c. search needs) (λ c. search needs)
+    (λ c κs. search needs) (λ c. search needs) (λ c κs. search needs) loop3-holds (λ c. search needs)
+    (λ c. search needs) (λ c. search needs) (λ c. search needs) (λ c. search needs) loop3-again (λ c κs. search needs)
+    (λ c. search needs) (λ c. search needs) (λ c κs. search needs) (λ c. search needs) (λ c. search needs) returns
+    (λ c. search needs) returns-2 (λ c. search needs) returns-3 returns-4 (λ c. search needs) returns-5 returns-6
+    same-length-4 returns-7 returns-8 (λ c. search needs) returns-9 (λ c. search needs) returns-10 (λ c. search needs)
+    returns-11)

@@ -11,12 +11,14 @@ use borrow.Author.Tests.{eq-eqb, ne-eqb, le-ltb, leb-true, not-true, not-false}
 use Rattle.laws.proofs.Tests.{both}
 use Rattle.laws.proofs.Lists.{part-to-end}
 use Rattle.telegram.specs.Telegram.{num, readTelegram}
+use Rattle.channel.specs.declared.state.Event.{Event}
 use Rattle.set_state.specs.State.{noDesk}
 use Rattle.set_rules.specs.Refusals.{fromDesk, firstOf}
 use Rattle.set_state.specs.declared.state.Desk.{Desk}
 use Rattle.requests.specs.Asking.{telegramAsked, inPhase, askedOf}
 use Rattle.requests.specs.declared.request.Asked.{Asked}
-use Rattle.requests.specs.declared.request.Asked.the-variants.{OnChannel}
+use Rattle.requests.specs.declared.request.Asked.the-variants.{OfLine}
+use Rattle.requests.specs.declared.request.LineRequest.the-variants.{OnChannel}
 use Rattle.requests.proofs.Asked.{desk-there, past-five, telegram-form}
 use borrow.Author.Needs.{needs}
 use Rattle.requests.proofs.request.asked_of.Statement.{statement}
@@ -83,7 +85,7 @@ returns-6 c = λ found d k.
     let a = c₁₃ .before .before .before .before .args in
     let other = ne-eqb _ _ (c .before .before .before .before .before .if4 .left) in
     rw (eq-eqb _ _ (c₁₃ .before .if1 .left), not-false (a .planned) (c₁₃ .if2 .left), ne-eqb _ _ k, desk-there (fromDesk (a .x)) (a .n) (a .x .desk) (c₇ .before .if3 .left), other, ← c₇ .desk-at .ensures, rw other at (c .before .before .before .if5 .left))
-    (ap (OnChannel (a .x .channel) (num 0)) (c .before .event-of .ensures))
+    (ap (λ (v : Event). OfLine (OnChannel (a .x .channel) (num 0) v)) (c .before .event-of .ensures))
 
 pub asked-of-spec : {M : Type 1} → statement M
 asked-of-spec =

@@ -21,8 +21,19 @@ returns-4 : tie.Need-returns-4
 returns-4 c = simp (c .before .before .match .keys3) (ap (λ (k : Number). MobileOn (c .before .before .before .args .x .base) k) (c .before .number-in .ensures))
 
 returns-5 : tie.Need-returns-5
-returns-5 c = simp (ne-eqb _ _ (c .match .rest .0 .0 .1), ne-eqb _ _ (c .match .rest .0 .1), ne-eqb _ _ (c .match .rest .1)) refl
+returns-5 c = simp (c .before .match .keys4) (c .ring-of .ensures)
+
+returns-6 : tie.Need-returns-6
+returns-6 c = simp (c .match .keys5) refl
+
+returns-7 : tie.Need-returns-7
+returns-7 c =
+    let r = c .match .rest in
+    simp (ne-eqb _ _ (r .0 .0 .0 .0 .1), ne-eqb _ _ (r .0 .0 .0 .1), ne-eqb _ _ (r .0 .0 .1), ne-eqb _ _ (r .0 .1), ne-eqb _ _ (r .1)) refl
 
 pub event-of-spec : {M : Type 1} → statement M
 event-of-spec =
-    tie.close (tie.spec (λ c κs. search needs) (λ c. search needs) returns returns-2 returns-3 returns-4 returns-5)
+    tie.close
+    (tie.spec
+    (λ c κs. search needs) (λ c. search needs) (λ c κs. search needs) returns returns-2 returns-3 returns-4 returns-5
+    returns-6 returns-7)
