@@ -21,7 +21,7 @@ setAlign = 4
 
 -- how it begins: "IMJ", and the number of this layout
 abbrev pub layoutNow : List ℕ
-layoutNow = 73 ∷ 77 ∷ 74 ∷ 1 ∷ []
+layoutNow = 73 ∷ 77 ∷ 74 ∷ 2 ∷ []
 
 abbrev pub beginsAt : ℕ → List ℕ → Bool
 beginsAt i b = eqb (getD b i 0) (getD layoutNow i 0)

@@ -16,7 +16,7 @@ pub struct Kept {
 
 // How the memory of a set begins: the last byte is the number of the layout. A release that lays a set out otherwise has
 // another.
-const LAYOUT: [u8; 4] = [b'I', b'M', b'J', 1];
+const LAYOUT: [u8; 4] = [b'I', b'M', b'J', 2];
 
 fn new_plain() -> PlainSet
     ensures { λ r. ⌜ r ≡ plainOf layoutNow newSet ⌝ }
@@ -82,7 +82,7 @@ pub extern "C" fn imjauska_is_current(saved: &[u8]) -> u8
     if saved[2] != b'J' {
         return 0;
     }
-    if saved[3] == 1 { 1 } else { 0 }
+    if saved[3] == 2 { 1 } else { 0 }
 }
 
 // Makes a new set, without a plan, in the caller's memory.

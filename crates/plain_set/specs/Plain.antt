@@ -34,7 +34,7 @@ arrivalIn p = cond (eqb (p .present) 1) (Present (p .kind) (p .recipients) (p .b
 
 abbrev pub channelIn : PlainChannel → Channel
 channelIn p =
-    record { code = p .code; entitled = p .entitled; holder = partyIn (p .holder); presser = partyIn (p .presser); quiet = p .quiet; release = p .release; call = callIn (p .call); arrival = arrivalIn (p .arrival) }
+    record { code = p .code; entitled = p .entitled; holder = partyIn (p .holder); presser = partyIn (p .presser); quiet = p .quiet; release = p .release; ring = p .ring; call = callIn (p .call); arrival = arrivalIn (p .arrival) }
 
 abbrev pub deskIn : PlainDesk → Desk
 deskIn p = record { code = p .code; number = num (p .number); link = record { phase = p .phase } }
@@ -64,7 +64,7 @@ arrivalOf (Present kind recipients base number) =
 
 abbrev pub channelOf : Channel → PlainChannel
 channelOf c =
-    record { call = callOf (c .call); arrival = arrivalOf (c .arrival); holder = partyOf (c .holder); presser = partyOf (c .presser); code = c .code; entitled = c .entitled; quiet = c .quiet; release = c .release; spare = replicate 4 0 }
+    record { call = callOf (c .call); arrival = arrivalOf (c .arrival); holder = partyOf (c .holder); presser = partyOf (c .presser); code = c .code; entitled = c .entitled; quiet = c .quiet; release = c .release; ring = c .ring; spare = replicate 3 0 }
 
 abbrev pub deskOf : Desk → PlainDesk
 deskOf d = record { code = d .code; number = d .number .digits; phase = d .link .phase; spare = replicate 3 0 }

@@ -81,6 +81,7 @@ fn channel_in(p: PlainChannel) -> Channel
         presser,
         quiet: p.quiet,
         release: p.release,
+        ring: p.ring,
         call,
         arrival,
     }
@@ -225,7 +226,7 @@ fn arrival_of(arrival: Arrival) -> PlainArrival
 fn channel_of(c: Channel) -> PlainChannel
     ensures { λ r. ⌜ r ≡ channelOf c ⌝ }
 {
-    let spare = [0; 4];
+    let spare = [0; 3];
     let h = c.holder;
     let t = c.presser;
     let k = c.call;
@@ -243,6 +244,7 @@ fn channel_of(c: Channel) -> PlainChannel
         entitled: c.entitled,
         quiet: c.quiet,
         release: c.release,
+        ring: c.ring,
         spare,
     }
 }

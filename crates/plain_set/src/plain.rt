@@ -42,7 +42,8 @@ pub struct PlainChannel {
     pub entitled: u8,
     pub quiet: u8,
     pub release: u8,
-    pub spare: [u8; 4],
+    pub ring: u8,
+    pub spare: [u8; 3],
 }
 
 #[repr(C)]
