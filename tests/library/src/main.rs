@@ -7,6 +7,7 @@ mod lent;
 mod library;
 mod pair;
 mod places;
+mod rings;
 
 use independent::generate::shapes;
 use std::process::ExitCode;
@@ -16,6 +17,7 @@ fn main() -> ExitCode {
         ("layout".to_string(), places::layout()),
         ("null pointers".to_string(), places::null_pointers()),
         ("saved sets".to_string(), places::saved_sets()),
+        ("rings".to_string(), rings::buffers()),
     ];
     let all_shapes = std::iter::once(None).chain(shapes::NAMES.into_iter().map(Some));
     for shape in all_shapes {

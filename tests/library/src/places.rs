@@ -61,7 +61,7 @@ pub fn null_pointers() -> Verdict {
 /// this layout, and that no entry changes how a set begins.
 pub fn saved_sets() -> Verdict {
     let new = library::new_set(0xff);
-    if !new.bytes().starts_with(b"IMJ\x01") {
+    if !new.bytes().starts_with(b"IMJ\x02") {
         return Err(format!("a new set begins with {:?}", &new.bytes()[..4]));
     }
     let mut pair = Pair::new();
@@ -95,7 +95,10 @@ fn not_current(set: &[u8]) -> Vec<(String, Vec<u8>)> {
     let longer = [set, &[0]].concat();
     let mut saved = vec![
         ("nothing".to_string(), Vec::new()),
-        ("a set without its last byte".into(), set[..set.len() - 1].into()),
+        (
+            "a set without its last byte".into(),
+            set[..set.len() - 1].into(),
+        ),
         ("a set with a byte more".into(), longer),
     ];
     for place in 0..4 {
@@ -126,7 +129,7 @@ pub fn random_entries() -> Verdict {
             let counted = (entry.len() - 2) as u16;
             entry[..2].copy_from_slice(&counted.to_be_bytes());
             entry[2] = 1;
-            entry[3] = random.below(10) as u8;
+            entry[3] = random.below(12) as u8;
         }
         let room = random.below(100);
         pair.step(&entry, room)
