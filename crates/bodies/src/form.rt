@@ -17,7 +17,7 @@ ghost use Rattle.bodies.specs.Bodies.{formOf};
 // The type of a call to one desk.
 const INDIVIDUAL: u32 = 3;
 
-fn base_arrival_form(ch: u8, kind: u8, base: u16, number: Number, order: u8) -> [u8; 46]
+fn base_arrival_form(ch: u8, kind: u8, base: u8, number: Number, order: u8) -> [u8; 46]
     ensures { λ r. ⌜ r ≡ formOf (Body.About ch (Notice.BaseArrival kind base number order)) ⌝ }
 {
     let m = BaseArrival {
@@ -70,7 +70,7 @@ fn press_notice_form(ch: u8, kind: u8, order: u8) -> [u8; 46]
     telegram_forms::caller_notice_form(m)
 }
 
-fn caller_notice_form(ch: u8, kind: u8, base: u16, number: Number, order: u8) -> [u8; 46]
+fn caller_notice_form(ch: u8, kind: u8, base: u8, number: Number, order: u8) -> [u8; 46]
     ensures { λ r. ⌜ r ≡ formOf (Body.About ch (Notice.CallerNotice kind base number order)) ⌝ }
 {
     let m = CallerNotice {

@@ -27,7 +27,7 @@ pub enum Arrival {
     Present {
         kind: u8,
         recipients: u8,
-        base: u16,
+        base: u8,
         number: Number,
     },
 }
@@ -84,10 +84,10 @@ pub enum Event {
     // The desk that presses, and its own number.
     PressOn { desk: u8, number: Number },
     PressOff,
-    MobileOn { base: u16, number: Number },
+    MobileOn { base: u8, number: Number },
     MobileOff,
     // The desk that a mobile calls, and the mobile's base and number.
-    Ring { desk: u8, base: u16, number: Number },
+    Ring { desk: u8, base: u8, number: Number },
     // The mobile that rings gives up.
     Cancel,
     // A desk's ring answer, and whether it matches the ring.
@@ -108,7 +108,7 @@ pub enum Notice {
     },
     BaseArrival {
         kind: u8,
-        base: u16,
+        base: u8,
         number: Number,
         order: u8,
     },
@@ -128,7 +128,7 @@ pub enum Notice {
     // A mobile talks, or no longer does.
     CallerNotice {
         kind: u8,
-        base: u16,
+        base: u8,
         number: Number,
         order: u8,
     },

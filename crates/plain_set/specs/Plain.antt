@@ -58,16 +58,16 @@ callOf (Open kind direction recipients base source) =
     record { source = source .digits; base = base; opened = 1; kind = kind; direction = direction; recipients = recipients; spare = 0 }
 
 abbrev pub arrivalOf : Arrival → PlainArrival
-arrivalOf Absent = record { number = 0; base = 0; present = 0; kind = 0; recipients = 0; spare = replicate 3 0 }
+arrivalOf Absent = record { number = 0; base = 0; spare = 0; present = 0; kind = 0; recipients = 0; tail = replicate 3 0 }
 arrivalOf (Present kind recipients base number) =
-    record { number = number .digits; base = base; present = 1; kind = kind; recipients = recipients; spare = replicate 3 0 }
+    record { number = number .digits; base = base; spare = 0; present = 1; kind = kind; recipients = recipients; tail = replicate 3 0 }
 
 abbrev pub channelOf : Channel → PlainChannel
 channelOf c =
     record { call = callOf (c .call); arrival = arrivalOf (c .arrival); holder = partyOf (c .holder); presser = partyOf (c .presser); code = c .code; entitled = c .entitled; quiet = c .quiet; release = c .release; ring = c .ring; spare = replicate 3 0 }
 
 abbrev pub deskOf : Desk → PlainDesk
-deskOf d = record { code = d .code; number = d .number .digits; phase = d .link .phase; spare = replicate 3 0 }
+deskOf d = record { code = d .code; number = d .number .digits; phase = d .link .phase }
 
 abbrev pub plainOf : List ℕ → LineSet → PlainSet
 plainOf layout s =

@@ -197,15 +197,16 @@ fn call_of(call: Call) -> PlainCall
 fn arrival_of(arrival: Arrival) -> PlainArrival
     ensures { λ r. ⌜ r ≡ arrivalOf arrival ⌝ }
 {
-    let spare = [0; 3];
+    let tail = [0; 3];
     match arrival {
         Arrival::Absent => PlainArrival {
             number: 0,
             base: 0,
+            spare: 0,
             present: 0,
             kind: 0,
             recipients: 0,
-            spare,
+            tail,
         },
         Arrival::Present {
             kind,
@@ -215,10 +216,11 @@ fn arrival_of(arrival: Arrival) -> PlainArrival
         } => PlainArrival {
             number: number.digits,
             base,
+            spare: 0,
             present: 1,
             kind,
             recipients,
-            spare,
+            tail,
         },
     }
 }
@@ -252,12 +254,10 @@ fn channel_of(c: Channel) -> PlainChannel
 fn desk_of(d: Desk) -> PlainDesk
     ensures { λ r. ⌜ r ≡ deskOf d ⌝ }
 {
-    let spare = [0; 3];
     PlainDesk {
         code: d.code,
         number: d.number.digits,
         phase: d.link.phase,
-        spare,
     }
 }
 

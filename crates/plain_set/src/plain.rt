@@ -1,6 +1,6 @@
 // A set as numbers, for a caller's memory: an exported function may not see an enum. Any bytes are such a set. A flag is 1
-// for true; `spare` is 0 and fills a gap, so that a set has no byte of which nothing is said. A channel's gap and the set's
-// are for what later releases keep of them, so that the size of a set stays.
+// for true; `spare` and `tail` are 0 and fill gaps, so that a set has no byte of which nothing is said. The gaps of a channel, an
+// arrival and the set are for what later releases keep of them, so that the size of a set stays.
 
 // A desk, if `held` is 1.
 #[repr(C)]
@@ -25,11 +25,12 @@ pub struct PlainCall {
 #[repr(C)]
 pub struct PlainArrival {
     pub number: u32,
-    pub base: u16,
+    pub base: u8,
+    pub spare: u8,
     pub present: u8,
     pub kind: u8,
     pub recipients: u8,
-    pub spare: [u8; 3],
+    pub tail: [u8; 3],
 }
 
 #[repr(C)]
@@ -50,8 +51,7 @@ pub struct PlainChannel {
 pub struct PlainDesk {
     pub code: u32,
     pub number: u32,
-    pub phase: u8,
-    pub spare: [u8; 3],
+    pub phase: u32,
 }
 
 // How many desks and channels the plan has.

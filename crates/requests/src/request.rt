@@ -177,7 +177,7 @@ fn ring_of(x: Entry, desks: [Desk; 4], n: u8) -> Event
     let number = number_in(digits);
     Event::Ring {
         desk: place,
-        base: x.base as u16,
+        base: x.base,
         number,
     }
 }
@@ -203,7 +203,7 @@ fn event_of(x: Entry, own: Number, desks: [Desk; 4], n: u8) -> Event
             let digits = x.number;
             let number = number_in(digits);
             Event::MobileOn {
-                base: x.base as u16,
+                base: x.base,
                 number,
             }
         }
@@ -214,7 +214,7 @@ fn event_of(x: Entry, own: Number, desks: [Desk; 4], n: u8) -> Event
 }
 
 // The phase that a link has to be in for what is said of it.
-fn link_phase(request: LinkRequest) -> u8
+fn link_phase(request: LinkRequest) -> u32
     ensures { λ r. ⌜ r ≡ phaseOf (Request.OfLink request) ⌝ }
 {
     match request {
@@ -231,7 +231,7 @@ fn if_ready(ready: bool, asked: Asked) -> Asked
 }
 
 // What is asked, if the desk's link is in the phase that it needs.
-fn in_phase(phase: u8, asked: Asked) -> Asked
+fn in_phase(phase: u32, asked: Asked) -> Asked
     ensures { λ r. ⌜ r ≡ inPhase phase asked ⌝ }
 {
     match asked {

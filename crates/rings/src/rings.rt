@@ -41,7 +41,7 @@ fn with_ring(left: u8, call: Call, channel: Channel) -> Channel
 }
 
 // A mobile rings a desk: all of it to that desk alone.
-pub fn ring(d: u8, base: u16, number: Number, channel: Channel) -> Moved
+pub fn ring(d: u8, base: u8, number: Number, channel: Channel) -> Moved
     ensures { λ r. ⌜ Follows r (ring d base number channel) ⌝ }
 {
     let recipients = only(d);
@@ -49,7 +49,7 @@ pub fn ring(d: u8, base: u16, number: Number, channel: Channel) -> Moved
         kind: INDIVIDUAL,
         direction: UP,
         recipients,
-        base,
+        base: base as u16,
         source: number,
     };
     let incoming = Send {

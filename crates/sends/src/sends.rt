@@ -104,7 +104,7 @@ pub struct MobileSends {
     pub talk: Send,
 }
 
-pub fn mobile_sends(on: u8, kind: u8, base: u16, number: Number, recipients: u8) -> MobileSends
+pub fn mobile_sends(on: u8, kind: u8, base: u8, number: Number, recipients: u8) -> MobileSends
     ensures { λ r. ⌜ r ≡ mobileSends on kind base number recipients ⌝ }
 {
     MobileSends {

@@ -9,7 +9,7 @@ ghost use Rattle.set_state.specs.State.{newLink, timeTold, answered, noD
 
 // A desk's command link, by its phase: 1 waits for the time, 2 for the operation answer, 3 is running.
 pub struct Link {
-    pub phase: u8,
+    pub phase: u32,
 }
 
 impl Link {

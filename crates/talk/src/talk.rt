@@ -83,7 +83,7 @@ pub fn press_off(channel: Channel) -> Moved
     }
 }
 
-pub fn mobile_on(listeners: u8, base: u16, number: Number, channel: Channel) -> Moved
+pub fn mobile_on(listeners: u8, base: u8, number: Number, channel: Channel) -> Moved
     ensures { λ r. ⌜ Follows r (mobileOn listeners base number channel) ⌝ }
 {
     let holder = channel.holder;
@@ -91,7 +91,7 @@ pub fn mobile_on(listeners: u8, base: u16, number: Number, channel: Channel) -> 
     let before = channel.call;
     let recipients = mobile_recipients(holder, listeners);
     let kind = kind_of(before);
-    let new = new_call(UP, recipients, base, number);
+    let new = new_call(UP, recipients, base as u16, number);
     let on = mobile_sends(1, kind, base, number, recipients);
     let incoming = on.incoming;
     let arrival = on.arrival;

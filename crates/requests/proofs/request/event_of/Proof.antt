@@ -18,7 +18,7 @@ returns-3 : tie.Need-returns-3
 returns-3 c = simp (c .match .keys2) refl
 
 returns-4 : tie.Need-returns-4
-returns-4 c = simp (c .before .before .match .keys3) (ap (λ (k : Number). MobileOn (c .before .before .before .args .x .base) k) (c .before .number-in .ensures))
+returns-4 c = simp (c .before .match .keys3) (ap (λ (k : Number). MobileOn (c .before .before .args .x .base) k) (c .number-in .ensures))
 
 returns-5 : tie.Need-returns-5
 returns-5 c = simp (c .before .match .keys4) (c .ring-of .ensures)
@@ -35,5 +35,4 @@ pub event-of-spec : {M : Type 1} → statement M
 event-of-spec =
     tie.close
     (tie.spec
-    (λ c κs. search needs) (λ c. search needs) (λ c κs. search needs) returns returns-2 returns-3 returns-4 returns-5
-    returns-6 returns-7)
+    (λ c κs. search needs) (λ c κs. search needs) returns returns-2 returns-3 returns-4 returns-5 returns-6 returns-7)

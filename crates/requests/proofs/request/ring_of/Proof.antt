@@ -12,12 +12,9 @@ use Rattle.requests.proofs.request.ring_of.Tie as tie
 
 returns : tie.Need-returns
 returns c =
-    let a = c .before .before .before .before .args in
-    let place = c .before .before .desk-place .ensures ∙ ap (λ (k : Number). deskPlace (k .digits) (take (a .n) (a .desks))) (c .before .before .before .number-in .ensures) in
-    ap₂ (λ (d : ℕ) (k : Number). Ring d (a .x .base) k) place (c .before .number-in2 .ensures)
+    let a = c .before .before .before .args in
+    let place = c .before .desk-place .ensures ∙ ap (λ (k : Number). deskPlace (k .digits) (take (a .n) (a .desks))) (c .before .before .number-in .ensures) in
+    ap₂ (λ (d : ℕ) (k : Number). Ring d (a .x .base) k) place (c .number-in2 .ensures)
 
 pub ring-of-spec : {M : Type 1} → statement M
-ring-of-spec =
-    tie.close
-    (tie.spec
-    (λ c κs. search needs) (λ c κs. search needs) (λ c κs. search needs) (λ c. search needs) returns)
+ring-of-spec = tie.close (tie.spec (λ c κs. search needs) (λ c κs. search needs) (λ c κs. search needs) returns)
