@@ -3,7 +3,6 @@
 use Prim.Native.Nat.{ℕ, zero, suc, _+_, _-_, _≤_, _<_}
 use mathlib.Core.List.{List, [], _∷_, _++_, map, append-assoc}
 use mathlib.Core.Bool.{false}
-use mathlib.Core.Logic.{inl, inr}
 use mathlib.Core.Path.{_≡_, refl, sym, ap, subst, _∙_}
 use native.Mathlib.Numerals.{add-one}
 use native.Mathlib.Omega.{arith}
@@ -11,18 +10,15 @@ use lib.ListN.{length, take, drop, getD, set, length-map, length-take}
 use lib.Seq.{drop-cons, take-suc, set-at, getD-at, set-getD, length-take-le}
 use lib.Dec.{ltb}
 use borrow.Author.Tests.{ltb-true, ltb-false}
-use types.Run.{OneOf, miss}
-use denote.Enum.Declared.{tagOf}
 use borrow.Table.Elements.{map-app}
 use Rattle.laws.proofs.Tests.{by-test}
 use Rattle.laws.proofs.Lists.{at-taken, take-count, drop-count}
-use Rattle.channel.proofs.state.Falling as falling-type
 use Rattle.line_rules.specs.Rules.{Step, happens}
-use Rattle.timers.specs.Falls.{falling, tickBy}
-use Rattle.timers.proofs.Kept.{tick-by}
+use Rattle.timers.specs.Falls.{falling, mayFall, isDue, tickBy}
+use Rattle.timers.proofs.Kept.{tick-by, at-rest, silent-unless-due}
 use Rattle.channel.specs.declared.state.Channel.{Channel}
 use Rattle.channel.specs.declared.state.Falling.{Falling}
-use Rattle.channel.specs.declared.state.Falling.the-variants.{Still, Ring, Quiet, Release, Due}
+use Rattle.channel.specs.declared.state.Falling.the-variants.{Still}
 use Rattle.channel.specs.declared.state.Event.the-variants.{Tick}
 use Rattle.channel.specs.declared.state.Send.{Send}
 use Rattle.records.specs.Emitting.{PutAt}
@@ -64,18 +60,14 @@ module _ {A : Type 0} (f : A → A) (xs : List A) where
 
 -- ---- one channel, by what the tick does to its timers
 
-module _ (ds : List Desk) (n : ℕ) (c : Channel) {f : Falling} (h : falling c ≡ f) where
-  moved-by : movedIn ds n Tick c ≡ tickBy f (listenersOf ds n c) c
+module _ (ds : List Desk) (n : ℕ) (c : Channel) where
+  next-by : {f : Falling} → falling c ≡ f → movedIn ds n Tick c .next ≡ tickBy f (listenersOf ds n c) c .next
   unfolding happens
-  moved-by = tick-by (listenersOf ds n c) c h
+  next-by h = ap (λ (st : Step). st .next) (tick-by (listenersOf ds n c) c h)
 
--- nothing is sent unless a timer runs out; 0 to 3 are the other cases
-silent : (e : ℕ) (c : Channel) (f : Falling) → OneOf (0 ∷ 1 ∷ 2 ∷ 3 ∷ []) (tagOf falling-type.the-type f) → tickBy f e c .sends ≡ []
-silent e c Still o = refl
-silent e c (Ring r) o = refl
-silent e c (Quiet q) o = refl
-silent e c (Release r) o = refl
-silent e c Due o = absurd (miss (0 ∷ 1 ∷ 2 ∷ 3 ∷ []) 4 tt o)
+  silent : isDue (falling c) ≡ false → tickSends ds n c ≡ []
+  unfolding happens
+  silent h = silent-unless-due (listenersOf ds n c) c h
 
 -- ---- the space counted
 
@@ -96,10 +88,10 @@ module _ (s : LineSet) where
   scan-first = record { counted = sum-first _ _ _; low = omega arith; rest = λ j c l h. absurd (omega arith) }
 
   module _ (k : ℕ) (c : Channel) (p : At (channelsOf s) k c) {need end : ℕ} (m : Scanned need end k) where
-    count-silent : {need′ : ℕ} (f : Falling) → falling c ≡ f → OneOf (0 ∷ 1 ∷ 2 ∷ 3 ∷ []) (tagOf falling-type.the-type f) → need′ ≡ need → Counted (k + 1) need′
+    count-silent : {need′ : ℕ} → isDue (falling c) ≡ false → need′ ≡ need → Counted (k + 1) need′
     unfolding spaceOf delivered
-    count-silent {need′} f h o e =
-        let none : tickOf c ≡ [] = ap (λ (st : Step). st .sends) (moved-by (s .desks) (s .size .desks) c h) ∙ silent _ c f o in
+    count-silent {need′} h e =
+        let none : tickOf c ≡ [] = silent (s .desks) (s .size .desks) c h in
         let zero : spaceOf (sentIn (s .desks) (s .size .desks) Tick c) ≡ 0 = rw none refl in
         sum-next (s .desks) tickOf (channelsOf s) k c need need′ p (omega (arith, zero)) (omega arith) (m .counted)
 
@@ -107,17 +99,17 @@ module _ (s : LineSet) where
     anew : {need′ end′ : ℕ} → Counted (k + 1) need′ → end′ ≡ k + 1 → Scanned need′ end′ (k + 1)
     anew n e = record { counted = n; low = omega arith; rest = λ j d l h. absurd (omega arith) }
 
-    pub scan-rest : {need′ end′ : ℕ} → falling c ≡ Still → need′ ≡ need → end′ ≡ end → Scanned need′ end′ (k + 1)
-    scan-rest {need′} {end′} h e f = record { counted = count-silent Still h (inl refl) e; low = omega (arith, m .low); rest = at-rest }
+    pub scan-rest : {need′ end′ : ℕ} → mayFall c ≡ false → need′ ≡ need → end′ ≡ end → Scanned need′ end′ (k + 1)
+    scan-rest {need′} {end′} h e f = record { counted = count-silent (ap isDue (at-rest c h)) e; low = omega (arith, m .low); rest = all-rest }
       where
-        at-rest : (j : ℕ) (d : Channel) → end′ ≤ j → j < k + 1 → At (channelsOf s) j d → falling d ≡ Still
-        at-rest j d l g q = by-test (ltb j k) (λ t. m .rest j d (omega arith) (ltb-true j k t) q) (λ t. ap falling (same t) ∙ h)
+        all-rest : (j : ℕ) (d : Channel) → end′ ≤ j → j < k + 1 → At (channelsOf s) j d → falling d ≡ Still
+        all-rest j d l g q = by-test (ltb j k) (λ t. m .rest j d (omega arith) (ltb-true j k t) q) (λ t. ap falling (same t) ∙ at-rest c h)
           where
             same : ltb j k ≡ false → d ≡ c
             same t = sym (q .is) ∙ ap (λ (i : ℕ). getD (channelsOf s) i noChannel) (omega (arith, ltb-false j k t)) ∙ p .is
 
-    pub scan-silent : {need′ end′ : ℕ} (f : Falling) → falling c ≡ f → OneOf (1 ∷ 2 ∷ 3 ∷ []) (tagOf falling-type.the-type f) → need′ ≡ need → end′ ≡ k + 1 → Scanned need′ end′ (k + 1)
-    scan-silent f h o e = anew (count-silent f h (inr o) e)
+    pub scan-silent : {need′ end′ : ℕ} → isDue (falling c) ≡ false → need′ ≡ need → end′ ≡ k + 1 → Scanned need′ end′ (k + 1)
+    scan-silent h e = anew (count-silent h e)
 
     pub scan-due : {need′ end′ : ℕ} (one : ℕ) → (one ≡ spaceOf (sentIn (s .desks) (s .size .desks) Tick c)) × (one ≤ 2856) → need′ ≡ need + one → end′ ≡ k + 1 → Scanned need′ end′ (k + 1)
     scan-due {need′} one h e = anew (sum-next (s .desks) tickOf (channelsOf s) k c need need′ p (omega arith) (omega arith) (m .counted))
@@ -172,18 +164,17 @@ module _ (s : LineSet) (b₀ : List ℕ) (i : ℕ) (c : Channel) (p : At (channe
         }
 
     -- a turn in which nothing is sent
-    pub silent-turn : (f : Falling) → falling c ≡ f → OneOf (0 ∷ 1 ∷ 2 ∷ 3 ∷ []) (tagOf falling-type.the-type f)
+    pub silent-turn : (f : Falling) → falling c ≡ f → isDue f ≡ false
         → t′ ≡ withChannels (set (t .channels) i (tickBy f (listenersOf (s .desks) (s .size .desks) c) c .next)) t → b′ ≡ b → at′ ≡ at → Ticking s b₀ (i + 1) t′ b′ at′
     unfolding recordsOf delivered
     silent-turn f h o e same stays =
-        let moved = moved-by (s .desks) (s .size .desks) c h in
-        let none : tickOf s c ≡ [] = ap (λ (st : Step). st .sends) moved ∙ silent _ c f o in
+        let none : tickOf s c ≡ [] = silent (s .desks) (s .size .desks) c (ap isDue h ∙ o) in
         let no-bytes : due ≡ [] = rw none refl in
-        turned _ e (ap (λ (st : Step). st .next) (sym moved)) (rw no-bytes (omega (arith, stays), same ∙ sym (written-none b at)))
+        turned _ e (sym (next-by (s .desks) (s .size .desks) c h)) (rw no-bytes (omega (arith, stays), same ∙ sym (written-none b at)))
 
     -- a turn that leaves the channel
     pub kept-turn : falling c ≡ Still → t′ ≡ t → b′ ≡ b → at′ ≡ at → Ticking s b₀ (i + 1) t′ b′ at′
-    kept-turn h e = silent-turn Still h (inl refl) (e ∙ ap (λ (l : List Channel). withChannels l t) (sym (set-getD (t .channels) i c)) ∙ ap (λ (x : Channel). withChannels (set (t .channels) i x) t) (still c))
+    kept-turn h e = silent-turn Still h refl (e ∙ ap (λ (l : List Channel). withChannels l t) (sym (set-getD (t .channels) i c)) ∙ ap (λ (x : Channel). withChannels (set (t .channels) i x) t) (still c))
 
 module _ (s : LineSet) (b₀ : List ℕ) {t : LineSet} {b : List ℕ} {at : ℕ} where
   -- channels at rest need no turn

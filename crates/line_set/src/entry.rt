@@ -49,16 +49,11 @@ pub fn step(mut set: LineSet, entry: &[u8], buffer: &mut [u8]) -> Answer
         let mut k = 0;
         while k < count {
             let c = set.channels[k];
-            let falling = timers::falls(c);
-            match falling {
-                Falling::Still => {}
-                Falling::Ring(_) | Falling::Quiet(_) | Falling::Release(_) => {
-                    end = k + 1;
-                }
-                Falling::Due => {
+            if timers::may_fall(c) {
+                if timers::is_due(c) {
                     need += all::space_in(desks, n, Event::Tick, c);
-                    end = k + 1;
                 }
+                end = k + 1;
             }
             k += 1;
         }

@@ -1,13 +1,12 @@
 // What a tick does, and what it sends when a timer runs out.
 use channel::Channel;
-use channel::Falling;
 use channel::Moved;
 use rings::unanswered;
 use sends::SILENT;
 use sends::alone;
 use sends::end;
 use sends::freed;
-use timers::falls;
+use timers::is_due;
 use timers::run_out;
 use timers::ticked;
 ghost use Rattle.line_rules.specs.Rules.{tick};
@@ -36,12 +35,9 @@ fn due(listeners: u8, channel: Channel) -> Moved
 pub fn tick(listeners: u8, channel: Channel) -> Moved
     ensures { λ r. ⌜ Follows r (tick listeners channel) ⌝ }
 {
-    let falling = falls(channel);
-    match falling {
-        Falling::Still | Falling::Ring(_) | Falling::Quiet(_) | Falling::Release(_) => {
-            let next = ticked(channel);
-            alone(next, SILENT)
-        }
-        Falling::Due => due(listeners, channel),
+    if is_due(channel) {
+        return due(listeners, channel);
     }
+    let next = ticked(channel);
+    alone(next, SILENT)
 }

@@ -1,7 +1,7 @@
 -- A tick as the code goes about it, by what it does to the timers. That it is the rule is promised: `ByTimers` (`Promises.antt`).
 use Prim.Native.Nat.{ℕ, _-_}
 use mathlib.Core.List.{[]}
-use mathlib.Core.Bool.{cond}
+use mathlib.Core.Bool.{Bool, true, false, cond, _||_}
 use lib.Dec.{leb, ltb}
 use Rattle.channel.specs.State.{isHeld, isPresent}
 use Rattle.line_rules.specs.Rules.{Step, step, isPressed, isRinging, withCall, withQuiet, withHolder, withRelease, withRing, endOf, freedSends, unanswered}
@@ -19,6 +19,17 @@ falling c =
     (cond (isPresent (c .arrival)) Still
     (cond (ltb 0 (c .quiet)) (cond (leb (c .quiet) 1) Due (Quiet (c .quiet - 1)))
     (cond (isHeld (c .holder)) (cond (leb (c .release) 1) Due (Release (c .release - 1))) Still))))
+
+-- a timer may fall: if not, the channel is at rest
+abbrev pub mayFall : Channel → Bool
+mayFall c = (ltb 0 (c .quiet) || ltb 0 (c .ring)) || isHeld (c .holder)
+
+abbrev pub isDue : Falling → Bool
+isDue Still = false
+isDue (Ring r) = false
+isDue (Quiet q) = false
+isDue (Release r) = false
+isDue Due = true
 
 -- what a timer does that runs out
 unfoldable pub runOut : ℕ → Channel → Step

@@ -8,37 +8,61 @@ use channel::is_present;
 ghost use mathlib.Core.Path.{_≡_};
 ghost use Prim.Native.Nat.{ℕ};
 ghost use Rattle.line_rules.specs.Rules.{withHolder, withCall, tick};
-ghost use Rattle.timers.specs.Falls.{falling, runOut};
+ghost use Rattle.timers.specs.Falls.{falling, mayFall, isDue, runOut};
 ghost use Rattle.channel.specs.declared.state.Call.the-variants.{Closed};
 ghost use Rattle.channel.specs.declared.state.Party.the-variants.{Nobody};
 
-// What a tick does to the timers. Most channels are at rest, so that is asked first, and talk next: with a test between the two,
-// what talk asks for is loaded for a channel at rest too.
+// What a tick does to the timers, asked in the rule's order.
 pub fn falls(channel: Channel) -> Falling
     ensures { λ r. ⌜ r ≡ falling channel ⌝ }
 {
-    let holder = channel.holder;
-    if (channel.quiet == 0) & (channel.ring == 0) & !is_held(holder) {
-        return Falling::Still;
-    }
-    let arrival = channel.arrival;
-    let presser = channel.presser;
-    if (channel.ring == 0) & (is_held(presser) | is_present(arrival)) {
-        return Falling::Still;
-    }
     if 0 < channel.ring {
         if 1 < channel.ring {
             return Falling::Ring(channel.ring - 1);
         }
         return Falling::Due;
     }
-    if 1 < channel.quiet {
-        return Falling::Quiet(channel.quiet - 1);
+    let presser = channel.presser;
+    let arrival = channel.arrival;
+    if is_held(presser) | is_present(arrival) {
+        return Falling::Still;
     }
-    if (channel.quiet == 0) & (1 < channel.release) {
+    if 0 < channel.quiet {
+        if 1 < channel.quiet {
+            return Falling::Quiet(channel.quiet - 1);
+        }
+        return Falling::Due;
+    }
+    let holder = channel.holder;
+    if !is_held(holder) {
+        return Falling::Still;
+    }
+    if 1 < channel.release {
         return Falling::Release(channel.release - 1);
     }
     Falling::Due
+}
+
+// Whether a timer may fall. Where none may, the channel is at rest, as most are.
+pub fn may_fall(channel: Channel) -> bool
+    ensures { λ r. ⌜ r ≡ mayFall channel ⌝ }
+{
+    let holder = channel.holder;
+    (0 < channel.quiet) | (0 < channel.ring) | is_held(holder)
+}
+
+// Whether a timer runs out. Most have more than a second left, and then it is not asked whether anyone talks.
+pub fn is_due(channel: Channel) -> bool
+    ensures { λ r. ⌜ r ≡ isDue (falling channel) ⌝ }
+{
+    if (channel.ring != 1) & (channel.quiet != 1) & (1 < channel.release) {
+        return false;
+    }
+    let falling = falls(channel);
+    match falling {
+        Falling::Still | Falling::Ring(_) | Falling::Quiet(_) | Falling::Release(_) => false,
+        Falling::Due => true,
+    }
 }
 
 // The channel without its call.

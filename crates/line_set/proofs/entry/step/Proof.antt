@@ -137,7 +137,9 @@ loop-holds : tie.Need-loop-holds Inv-loop μ-loop Inv-loop2 μ-loop2 Inv-loop3 �
 loop-holds c = (scan-first _, omega arith)
 
 add-need : tie.Need-add-need Inv-loop μ-loop Inv-loop2 μ-loop2 Inv-loop3 μ-loop3
-add-need c = omega (arith, c .before .before .before .before .before .before .loop .inv .0 .counted .bound, c .space-in .ensures .1, c .before .before .before .before .before .before .before .before .before .before .before .before .before .count-of .ensures .1, c .before .before .before .before .before .loop-test .taken)
+add-need c =
+    let t = c .before .before .before .before .before .before in
+    omega (arith, t .before .loop .inv .0 .counted .bound, c .space-in .ensures .1, t .before .before .before .before .before .before .before .before .count-of .ensures .1, t .loop-test .taken)
 
 loop-again : tie.Need-loop-again Inv-loop μ-loop Inv-loop2 μ-loop2 Inv-loop3 μ-loop3
 loop-again c =
@@ -147,13 +149,12 @@ loop-again c =
     let far : l .k + 1 ≤ k .count-of .result = omega (arith, c .before .before .before .loop-test .taken) in
     let p = channel-at k (l .k) _ (c .before .before .before .loop-test .taken) in
     let m = l .inv .0 in
-    let falls = sym (c .before .falls .ensures) in
-    elim (c .match .came) [
-      | inl a ↦ (scan-rest s (l .k) _ p m (falls ∙ a .1 .given .1) (a .2) (a .3), far)
-      | inr d ↦ elim d [
-        | inl a ↦ (scan-silent s (l .k) _ p m _ falls (a .0 .keys2) (a .1) (a .2), far)
-        | inr a ↦ (scan-due s (l .k) _ p m _ (a .2 .ensures) (a .3) (a .4), far)
+    elim (c .if7 .came) [
+      | inl a ↦ elim (a .2 .came) [
+        | inl b ↦ (scan-due s (l .k) _ p m _ (b .1 .ensures) (a .3 ∙ b .2) (a .4), far)
+        | inr b ↦ (scan-silent s (l .k) _ p m (sym (a .1 .ensures) ∙ b .0 .left) (a .3 ∙ b .1) (a .4), far)
       ]
+      | inr a ↦ (scan-rest s (l .k) _ p m (sym (c .before .may-fall .ensures) ∙ a .0 .left) (a .1) (a .2), far)
     ]
 
 total-is : (c : tie.After-loop Inv-loop μ-loop Inv-loop2 μ-loop2 Inv-loop3 μ-loop3) → c .before .loop .need ≡ spaceOf (onTick (set-at (c .before .before .before .before .before .before .before .before)) .sent)
@@ -167,12 +168,12 @@ returns-6 : tie.Need-returns-6 Inv-loop μ-loop Inv-loop2 μ-loop2 Inv-loop3 μ-
 returns-6 c =
     let k = c .before .before .before .before .before .before .before .before .before in
     gives-as (tick-step (set-at k) (entry-at k) _ (read-at k) (length (buffer-at k)) (c .before .before .before .if6 .taken))
-    (no-room (set-at k) (buffer-at k) (onTick (set-at k)) (omega (arith, total-is (c .before), c .if7 .taken)) (left-as-was (set-at k) 16 (buffer-at k)))
+    (no-room (set-at k) (buffer-at k) (onTick (set-at k)) (omega (arith, total-is (c .before), c .if9 .taken)) (left-as-was (set-at k) 16 (buffer-at k)))
 
 -- ---- a tick: the records and the channels
 
 loop2-holds : tie.Need-loop2-holds Inv-loop μ-loop Inv-loop2 μ-loop2 Inv-loop3 μ-loop3
-loop2-holds c = (tick-first (set-at (c .before .before .before .before .before .before .before .before .before)) (buffer-at (c .before .before .before .before .before .before .before .before .before)) (omega (arith, total-is (c .before), c .if7 .left)), omega arith, omega (arith, c .before .before .loop .inv .0 .low, c .before .before .loop .inv .1))
+loop2-holds c = (tick-first (set-at (c .before .before .before .before .before .before .before .before .before)) (buffer-at (c .before .before .before .before .before .before .before .before .before)) (omega (arith, total-is (c .before), c .if9 .left)), omega arith, omega (arith, c .before .before .loop .inv .0 .low, c .before .before .loop .inv .1))
 
 turn-at : (c : tie.In-loop2 Inv-loop μ-loop Inv-loop2 μ-loop2 Inv-loop3 μ-loop3) (z : Channel) → At (channelsOf (set-at (c .before .before .before .before .before .before .before .before .before .before .before))) (c .before .loop2 .i) (getD (c .before .loop2 .set .channels) (c .before .loop2 .i) z)
 turn-at c z =
@@ -196,15 +197,15 @@ loop2-again c =
     let m = l .inv .0 in
     let far : l .i + 1 ≤ c .before .before .before .before .before .before .before .loop .end = omega (arith, c .before .before .before .loop2-test .taken) in
     let p = turn-at (c .before .before .before) _ in
-    let falls = sym (c .before .falls2 .ensures) in
-    elim (c .match2 .came) [
+    let falls = sym (c .before .falls .ensures) in
+    elim (c .match .came) [
       | inl a ↦ (kept-turn s b (l .i) _ p m (falls ∙ a .1 .given .1) (a .3) (a .2) (a .4), far, l .inv .2)
       | inr d ↦ elim d [
-        | inl a ↦ (silent-turn s b (l .i) _ p m _ (falls ∙ a .1 .given .1) (inr (inl refl)) (a .5) (a .4) (a .6), far, l .inv .2)
+        | inl a ↦ (silent-turn s b (l .i) _ p m _ (falls ∙ a .1 .given .1) refl (a .5) (a .4) (a .6), far, l .inv .2)
         | inr d ↦ elim d [
-          | inl a ↦ (silent-turn s b (l .i) _ p m _ (falls ∙ a .1 .given .1) (inr (inr (inl refl))) (a .5) (a .4) (a .6), far, l .inv .2)
+          | inl a ↦ (silent-turn s b (l .i) _ p m _ (falls ∙ a .1 .given .1) refl (a .5) (a .4) (a .6), far, l .inv .2)
           | inr d ↦ elim d [
-            | inl a ↦ (silent-turn s b (l .i) _ p m _ (falls ∙ a .1 .given .1) (inr (inr (inr refl))) (a .5) (a .4) (a .6), far, l .inv .2)
+            | inl a ↦ (silent-turn s b (l .i) _ p m _ (falls ∙ a .1 .given .1) refl (a .5) (a .4) (a .6), far, l .inv .2)
             | inr a ↦ (turned s b (l .i) _ p m _ (a .8) (a .6 .ensures _) (a .9 ∙ a .3 .ensures .0, a .7 ∙ a .3 .ensures .1), far, l .inv .2)
           ]
         ]
@@ -274,7 +275,7 @@ loop3-again c =
     let k = begun (c .before .before .before .before .before .before .before .before .before) in
     let far : l .i + 1 ≤ k .count-of .result = omega (arith, c .before .before .before .loop3-test .taken) in
     let p = channel-at k (l .i) _ (c .before .before .before .loop3-test .taken) in
-    (sought-next (by-code code) (channelsOf (set-at k)) (l .i) noChannel (p .within) (ap (λ (x : Channel). eqb (x .code) code) (p .is) ∙ ne-eqb _ _ (c .if8 .left)) (l .inv .0), far)
+    (sought-next (by-code code) (channelsOf (set-at k)) (l .i) noChannel (p .within) (ap (λ (x : Channel). eqb (x .code) code) (p .is) ∙ ne-eqb _ _ (c .if10 .left)) (l .inv .0), far)
 
 sought : (c : tie.Left-loop3 Inv-loop μ-loop Inv-loop2 μ-loop2 Inv-loop3 μ-loop3) → c .before .loop3 .i ≡ placeOf (codeOf (request-of (c .before .before))) (channelsOf (set-at (begun (c .before .before .before .before .before .before))))
 sought c =
@@ -314,7 +315,7 @@ returns-11 c =
     let place = c .before .before .before .before .before .before .before in
     let k = begun (place .before .before .before .before .before .before .before) in
     let s = set-at k in
-    kept s (entry-at k) (buffer-at k) (c .if9 .left)
+    kept s (entry-at k) (buffer-at k) (c .if11 .left)
     (gives-as (as-step s (entry-at k) _ (read-at k) (length (buffer-at k)))
     (c .before .before .before .before .change-of .ensures (s .planned) (s .channels) (s .size .channels) (place .place-below .result) (entry-at k) (asked-at place _)))
 
@@ -322,18 +323,4 @@ pub step-spec : {M : Type 1} → statement M
 step-spec =
     tie.close
     (tie.spec
-    Inv-loop μ-loop Inv-loop2 μ-loop2 Inv-loop3 μ-loop3 (λ c κs. search needs) (λ c κs. search needs) sub-plan
-    sub-plan (λ c. search needs) (λ c κs. search needs) (λ c κs. search needs) put-all-requires (λ c κs. search needs)
-    loop-holds (λ c. search needs) (λ c. search needs) (λ c κs. search needs) (λ c. search needs) (λ c. search needs)
-    (λ c. search needs) (λ c κs. search needs) add-need (λ c. search needs) (λ c. search needs) (λ c. search needs)
-    loop-again loop2-holds (λ c. search needs) (λ c. search needs) (λ c κs. search needs) (λ c. search needs)
-    (λ c. search needs) (λ c. search needs) (λ c. search needs) (λ c. search needs) (λ c. search needs)
-    (λ c. search needs) (λ c. search needs) (λ c. search needs) (λ c. search needs) (λ c. search needs)
-    put-in-requires (λ c κs. search needs) (λ c. search needs) (λ c. search needs) (λ c. search needs)
-    (λ c. search needs) loop2-again (λ c κs. search needs) (λ c. search needs) (λ c. search needs)
-    (λ c κs. search needs) (λ c. search needs) (λ c κs. search needs) loop3-holds (λ c. search needs)
-    (λ c. search needs) (λ c. search needs) (λ c. search needs) (λ c. search needs) loop3-again (λ c κs. search needs)
-    (λ c. search needs) (λ c. search needs) (λ c κs. search needs) (λ c. search needs) (λ c. search needs) returns
-    (λ c. search needs) returns-2 (λ c. search needs) returns-3 returns-4 (λ c. search needs) returns-5 returns-6
-    same-length-4 returns-7 returns-8 (λ c. search needs) returns-9 (λ c. search needs) returns-10 (λ c. search needs)
-    returns-11)
+    Inv-loop μ-loop Inv-loop2 μ-loop2 Inv-loop3 μ-loop3 (λ c κs. search needs) (λ c κs. search needs) sub-plan sub-plan (λ c. search needs) (λ c κs. search needs) (λ c κs. search needs) put-all-requires (λ c κs. search needs) loop-holds (λ c. search needs) (λ c. search needs) (λ c κs. search needs) (λ c κs. search needs) (λ c κs. search needs) add-need (λ c. search needs) (λ c. search needs) (λ c. search needs) loop-again loop2-holds (λ c. search needs) (λ c. search needs) (λ c κs. search needs) (λ c. search needs) (λ c. search needs) (λ c. search needs) (λ c. search needs) (λ c. search needs) (λ c. search needs) (λ c. search needs) (λ c. search needs) (λ c. search needs) (λ c. search needs) (λ c. search needs) put-in-requires (λ c κs. search needs) (λ c. search needs) (λ c. search needs) (λ c. search needs) (λ c. search needs) loop2-again (λ c κs. search needs) (λ c. search needs) (λ c. search needs) (λ c κs. search needs) (λ c. search needs) (λ c κs. search needs) loop3-holds (λ c. search needs) (λ c. search needs) (λ c. search needs) (λ c. search needs) (λ c. search needs) loop3-again (λ c κs. search needs) (λ c. search needs) (λ c. search needs) (λ c κs. search needs) (λ c. search needs) (λ c. search needs) returns (λ c. search needs) returns-2 (λ c. search needs) returns-3 returns-4 (λ c. search needs) returns-5 returns-6 same-length-4 returns-7 returns-8 (λ c. search needs) returns-9 (λ c. search needs) returns-10 (λ c. search needs) returns-11)
