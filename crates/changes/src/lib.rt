@@ -1,6 +1,5 @@
 // What an entry about one desk's link or one channel changes: the desks or that channel, as they are after it. What is here gets
 // the desks and the one channel; the set itself stays with `line_set`.
-mod answer;
 mod change;
 mod line;
 mod link;

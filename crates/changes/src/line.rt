@@ -1,5 +1,4 @@
 // What an entry about one channel changes: it is judged, and then happens there.
-use super::answer;
 use super::change;
 use super::change::Change;
 use super::lookup;
@@ -69,7 +68,7 @@ fn event_of(desks: [Desk; 4], d: u8, request: LineRequest, c: Channel) -> Event
         LineRequest::AnswersRing(answer) => {
             let desk = set_state::desk_at(desks, d);
             let own = desk.number;
-            let matched = answer::answers_ring(d, own, answer, c);
+            let matched = judging::answers_ring(d, own, answer, c);
             Event::RingAnswer { desk: d, matched }
         }
     }

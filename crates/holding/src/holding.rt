@@ -13,6 +13,7 @@ use sends::end;
 use sends::freed;
 use sends::press_sends;
 use sends::set_of;
+use sends::taken;
 ghost use mathlib.Core.Path.{_≡_};
 ghost use mathlib.Core.List.{[], _∷_};
 ghost use Rattle.channel.specs.State.{only};
@@ -47,13 +48,7 @@ fn captured(listeners: u8, d: u8, channel: Channel) -> Moved
     let call = channel.call;
     let arrival = channel.arrival;
     let answer = reply(d, 0);
-    let state = Send {
-        recipients: listeners,
-        notice: Notice::CaptureState {
-            holder: d,
-            state: 1,
-        },
-    };
+    let state = taken(listeners, d);
     Moved {
         next: Channel {
             code: channel.code,

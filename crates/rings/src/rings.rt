@@ -13,6 +13,7 @@ use sends::alone;
 use sends::end;
 use sends::ring_off_sends;
 use sends::start;
+use sends::taken;
 use telegram::Number;
 ghost use mathlib.Core.Path.{_≡_};
 ghost use Rattle.channel.specs.State.{only};
@@ -108,13 +109,7 @@ fn answered(listeners: u8, d: u8, channel: Channel) -> Moved
         recipients,
         notice: Notice::CallResult { result: 1 },
     };
-    let state = Send {
-        recipients: listeners,
-        notice: Notice::CaptureState {
-            holder: d,
-            state: 1,
-        },
-    };
+    let state = taken(listeners, d);
     Moved {
         next: Channel {
             code: channel.code,

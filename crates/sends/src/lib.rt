@@ -23,3 +23,4 @@ pub use sends::opening;
 pub use sends::press_sends;
 pub use sends::ring_off_sends;
 pub use sends::start;
+pub use sends::taken;

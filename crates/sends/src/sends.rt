@@ -179,7 +179,20 @@ pub fn ring_off_sends(ringing: bool, call: Call) -> RingSends
     }
 }
 
-// That the channel is free. It has the holder's place, since the holder gets its own number with it and no other desk does.
+// That desk d has the channel. It gets its own number with it, and no other desk does.
+pub fn taken(recipients: u8, d: u8) -> Send
+    ensures { λ r. ⌜ r ≡ to recipients (CaptureState d 1) ⌝ }
+{
+    Send {
+        recipients,
+        notice: Notice::CaptureState {
+            holder: d,
+            state: 1,
+        },
+    }
+}
+
+// That the channel is free. It has the place of who had it, for the same reason.
 pub fn freed(recipients: u8, holder: Party) -> Send
     ensures { λ r. ⌜ r ≡ to recipients (CaptureState (holderPlace holder) 0) ⌝ }
 {

@@ -8,7 +8,7 @@ use Rattle.holding.proofs.holding.captured.Tie as tie
 
 returns : tie.Need-returns
 unfolding heard
-returns c = (refl, simp (c .reply .ensures) refl)
+returns c = (refl, simp (c .taken .ensures, c .before .reply .ensures) refl)
 
 pub captured-spec : {M : Type 1} → statement M
-captured-spec = tie.close (tie.spec (λ c κs. search needs) returns)
+captured-spec = tie.close (tie.spec (λ c κs. search needs) (λ c κs. search needs) returns)

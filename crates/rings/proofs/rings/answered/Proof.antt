@@ -9,7 +9,7 @@ use Rattle.rings.proofs.rings.answered.Tie as tie
 
 returns : tie.Need-returns
 unfolding answered heard
-returns c = (refl, simp (c .reply .ensures, c .before .only .ensures) refl)
+returns c = (refl, simp (c .taken .ensures, c .before .reply .ensures, c .before .before .only .ensures) refl)
 
 pub answered-spec : {M : Type 1} → statement M
-answered-spec = tie.close (tie.spec (λ c κs. search needs) (λ c κs. search needs) returns)
+answered-spec = tie.close (tie.spec (λ c κs. search needs) (λ c κs. search needs) (λ c κs. search needs) returns)

@@ -1,9 +1,9 @@
--- `changes::answer::answers_ring` meets its contract, test by test.
+-- `judging::answer::answers_ring` meets its contract, test by test.
 -- Assumes nothing.
 use mathlib.Core.Path.{refl}
 use borrow.Author.Needs.{needs}
-use Rattle.changes.proofs.answer.answers_ring.Statement.{statement}
-use Rattle.changes.proofs.answer.answers_ring.Tie as tie
+use Rattle.judging.proofs.answer.answers_ring.Statement.{statement}
+use Rattle.judging.proofs.answer.answers_ring.Tie as tie
 
 returns : tie.Need-returns
 returns c = simp (c .before .before .before .before .before .is-told .ensures, c .before .before .before .caller-of .ensures) refl

@@ -13,13 +13,7 @@ fn is_told(d: u8, call: Call) -> bool
 {
     match call {
         Call::Closed => false,
-        Call::Open {
-            kind,
-            direction,
-            recipients,
-            base,
-            source,
-        } => channel::is_in(d, recipients),
+        Call::Open { recipients, .. } => channel::is_in(d, recipients),
     }
 }
 
@@ -29,13 +23,7 @@ fn caller_of(call: Call) -> u32
 {
     match call {
         Call::Closed => 0,
-        Call::Open {
-            kind,
-            direction,
-            recipients,
-            base,
-            source,
-        } => source.digits,
+        Call::Open { source, .. } => source.digits,
     }
 }
 

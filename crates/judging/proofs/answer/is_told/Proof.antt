@@ -1,9 +1,9 @@
--- `changes::answer::is_told` meets its contract, case by case.
+-- `judging::answer::is_told` meets its contract, case by case.
 -- Assumes nothing.
 use mathlib.Core.Path.{refl}
 use borrow.Author.Needs.{needs}
-use Rattle.changes.proofs.answer.is_told.Statement.{statement}
-use Rattle.changes.proofs.answer.is_told.Tie as tie
+use Rattle.judging.proofs.answer.is_told.Statement.{statement}
+use Rattle.judging.proofs.answer.is_told.Tie as tie
 
 returns : tie.Need-returns
 returns c = rw (c .enum-told .given .1) refl
