@@ -2,7 +2,7 @@
 -- ring answers. The row of the ticks speaks of something too.
 -- Assumes nothing.
 use Prim.Native.Nat.{ℕ}
-use mathlib.Core.List.{List, [], _∷_, map}
+use mathlib.Core.List.{List, [], _∷_, _++_, map}
 use mathlib.Core.Path.{_≡_, refl, ap}
 use native.Mathlib.Omega.{arith}
 use lib.Count.{onesIn}
@@ -21,14 +21,20 @@ use Rattle.set_rules.specs.Plan.{desksOk, desksIn, hasNumber, distinct, 
 use Rattle.set_rules.specs.Refusals.{numberIn, firstOf, refusalOf}
 use Rattle.set_rules.specs.Records.{delivered, toEach, recordsOf, spaceOf}
 use Rattle.set_rules.specs.SetRules.{onChannel, sendsOf, onTick, acceptedBy, accepted}
-use Rattle.set_rules.specs.Feeds.{Item, outcomeOf, stepOf, run, after, cutUp, ofDesk, views, Seen}
-use Rattle.set_rules.specs.Spelling.{spelled, entryOf, lent, bothRunning, callEntry, ringAnswerEntry}
-use Rattle.set_rules.specs.Promises.{Renumbered, OtherSource, MayDiffer, same, talks, calls-other, other-answers, Alike, ended, more}
+use Rattle.set_rules.specs.Feeds.{Item, outcomeOf, stepOf, stepBy, run, after, cutUp, ofDesk, views, Seen}
+use Rattle.set_rules.specs.Spelling.{spelled, entryOf, lent, bothRunning, captureEntry, callEntry, ringAnswerEntry}
+use Rattle.set_rules.specs.Promises.{Renumbered, OtherSource, MayDiffer, same, talks, calls-other, other-answers, Alike, Related, ended, more}
 use Rattle.set_rules.specs.Witness.{Speaks, SpeaksOfRings, AgreementNeeded, TicksMet}
 
 -- an entry before one set is alike to itself
 alone : (s : LineSet) (e : List ℕ) → Alike 1 s s e e
 alone s e = record { may = same refl; agree = λ o c. refl }
+
+-- feeds that begin alike
+same-first : (s : LineSet) (f : List Item) {g g′ : List Item} → Related 1 (after s f) (after s f) g g′ → Related 1 s s (f ++ g) (f ++ g′)
+unfolding after
+same-first s [] r = r
+same-first s (i ∷ f) r = more (alone s (i .entry)) refl (same-first (stepBy s i .after) f r)
 
 other : _≡_ {A = ℕ} 0 1 → ⊥
 other p = omega arith
@@ -49,17 +55,11 @@ talk-alike = record { kind-is = refl; bytes = record { long = refl; front = refl
 
 -- In what the seventh entry sends, the number of the 550464 ends behind a contact of 8 bytes and 5, 16 and 14 more.
 pub witness : Speaks
-unfolding lastIn learnt spelled onesIn digitsOf allDigits valueFrom bodyOk valuesIn bytesOf headerOk readTelegram telegramOf isIn capture mobileOn happens placeOf runningFrom readEntry desksOk desksIn hasNumber distinct channelsOk channelsIn planOk setOf firstOf refusalOf delivered toEach recordsOf spaceOf onChannel pick acceptedBy accepted outcomeOf stepOf cutUp ofDesk views
+unfolding lastIn learnt spelled onesIn digitsOf allDigits valueFrom bodyOk valuesIn bytesOf headerOk readTelegram telegramOf isIn capture mobileOn happens placeOf runningFrom readEntry desksOk desksIn hasNumber distinct channelsOk channelsIn planOk setOf firstOf refusalOf delivered toEach recordsOf spaceOf onChannel pick acceptedBy accepted outcomeOf stepOf after cutUp ofDesk views
 witness = record {
   related =
-      more (alone _ _) refl
-      (more (alone _ _) refl
-      (more (alone _ _) refl
-      (more (alone _ _) refl
-      (more (alone _ _) refl
-      (more (alone _ _) refl
-      (more (record { may = talks talk-alike other; agree = λ o c. refl }) refl
-      ended))))));
+      same-first newSet (map lent (bothRunning ++ (captureEntry 7 ∷ [])))
+      (more (record { may = talks talk-alike other; agree = λ o c. refl }) refl ended);
   differ = λ p. let q : _≡_ {A = ℕ} 55 56 = ap (lastIn 6) p in omega arith;
   receives = refl;
   learns = λ p. let q : _≡_ {A = ℕ} 55 56 = ap (learnt 6 43) p in omega arith;
@@ -84,14 +84,10 @@ pub rings-witness : SpeaksOfRings
 unfolding lastIn learnt spelled onesIn digitsOf allDigits valueFrom bodyOk valuesIn bytesOf headerOk readTelegram telegramOf isIn ring answered ringAnswer happens placeOf runningFrom deskPlace readEntry desksOk desksIn hasNumber distinct channelsOk channelsIn planOk setOf firstOf refusalOf delivered toEach recordsOf spaceOf onChannel pick acceptedBy accepted outcomeOf stepOf after cutUp ofDesk views
 rings-witness = record {
   related =
-      more (alone _ _) refl
-      (more (alone _ _) refl
-      (more (alone _ _) refl
-      (more (alone _ _) refl
-      (more (alone _ _) refl
+      same-first newSet (map lent bothRunning)
       (more (record { may = call-may; agree = λ o c. refl }) refl
       (more (record { may = other-answers answer-alike; agree = λ o c. refl }) refl
-      ended))))));
+      ended));
   differ = λ p. let q : _≡_ {A = ℕ} 55 56 = ap (lastIn 5) p in omega arith;
   receives = refl;
   learns = λ p. let q : _≡_ {A = ℕ} 55 56 = ap (learnt 5 41) p in omega arith;
