@@ -24,34 +24,28 @@ pub fn one(mut t: [u8; 46], at: usize, v: u32) -> [u8; 46]
     t
 }
 
-pub fn two(mut t: [u8; 46], at: usize, v: u32) -> [u8; 46]
+pub fn two(t: [u8; 46], at: usize, v: u32) -> [u8; 46]
     requires { ⌜ at + 2 ≤ 46 ⌝ }
     ensures { λ r. ⌜ r ≡ sets t at (digitsOf 2 v) ⌝ }
 {
-    t[at] = digit(v / 10);
-    t[at + 1] = digit(v);
-    t
+    let high = one(t, at, v / 10);
+    one(high, at + 1, v)
 }
 
-pub fn three(mut t: [u8; 46], at: usize, v: u32) -> [u8; 46]
+pub fn three(t: [u8; 46], at: usize, v: u32) -> [u8; 46]
     requires { ⌜ at + 3 ≤ 46 ⌝ }
     ensures { λ r. ⌜ r ≡ sets t at (digitsOf 3 v) ⌝ }
 {
-    t[at] = digit(v / 10 / 10);
-    t[at + 1] = digit(v / 10);
-    t[at + 2] = digit(v);
-    t
+    let high = two(t, at, v / 10);
+    one(high, at + 2, v)
 }
 
-pub fn four(mut t: [u8; 46], at: usize, v: u32) -> [u8; 46]
+pub fn four(t: [u8; 46], at: usize, v: u32) -> [u8; 46]
     requires { ⌜ at + 4 ≤ 46 ⌝ }
     ensures { λ r. ⌜ r ≡ sets t at (digitsOf 4 v) ⌝ }
 {
-    t[at] = digit(v / 10 / 10 / 10);
-    t[at + 1] = digit(v / 10 / 10);
-    t[at + 2] = digit(v / 10);
-    t[at + 3] = digit(v);
-    t
+    let high = two(t, at, v / 10 / 10);
+    two(high, at + 2, v)
 }
 
 pub fn eight(t: [u8; 46], at: usize, v: u32) -> [u8; 46]
