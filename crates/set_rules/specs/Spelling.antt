@@ -19,12 +19,12 @@ dv fs = 68 ∷ 86 ∷ spelled fs
 abbrev pub entryOf : ℕ → List ℕ → List ℕ
 entryOf kind payload = measuredBytes (1 ∷ kind ∷ payload)
 
--- an entry with a buffer of so many bytes; 1,000 are enough for each entry here
+-- an entry with a buffer of so many bytes; 250 are enough for each entry here
 abbrev pub lentRoom : ℕ → List ℕ → Item
 lentRoom n e = record { entry = e; buffer = replicate n 0 }
 
 abbrev pub lent : List ℕ → Item
-lent = lentRoom 1000
+lent = lentRoom 250
 
 -- ---- 01's listing: "plan of one desk (code 12, number 00120001), channel 7, mask 1; capture of 7; 550411 20240229120000; 550421
 -- system 0 state 1; capture of 7; handover"
