@@ -4,7 +4,8 @@ use mathlib.Core.Bool.{Bool, true, false, cond}
 use lib.Dec.{ltb, eqb}
 use Rattle.channel.specs.declared.state.Party.{Party}
 use Rattle.channel.specs.declared.state.Party.the-variants.{Nobody, By}
-use Rattle.channel.specs.declared.state.Call.the-variants.{Closed}
+use Rattle.channel.specs.declared.state.Call.{Call}
+use Rattle.channel.specs.declared.state.Call.the-variants.{Closed, Open}
 use Rattle.channel.specs.declared.state.Arrival.{Arrival}
 use Rattle.channel.specs.declared.state.Arrival.the-variants.{Absent, Present}
 use Rattle.channel.specs.declared.state.Channel.{Channel}
@@ -39,6 +40,15 @@ heldBy d (By h) = eqb h d
 abbrev pub holderPlace : Party → ℕ
 holderPlace Nobody = 0
 holderPlace (By d) = d
+
+-- a desk or none, as a set
+abbrev pub partySet : Party → ℕ
+partySet Nobody = 0
+partySet (By d) = only d
+
+abbrev pub isOpen : Call → Bool
+isOpen Closed = false
+isOpen (Open k d m b s) = true
 
 abbrev pub isPresent : Arrival → Bool
 isPresent Absent = false

@@ -21,6 +21,18 @@ pub enum Call {
     },
 }
 
+impl Call {
+    // The types: a call that talk opens, and one in which a mobile rings one desk.
+    pub const GENERAL: u8 = 1;
+
+    pub const INDIVIDUAL: u8 = 3;
+
+    // The directions: from a desk, and from a mobile.
+    pub const DOWN: u8 = 1;
+
+    pub const UP: u8 = 2;
+}
+
 // The mobile that talks, if there is one.
 pub enum Arrival {
     Absent,

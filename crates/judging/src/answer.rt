@@ -34,7 +34,7 @@ pub fn answers_ring(d: u8, own: Number, answer: RingAnswer, c: Channel) -> bool
     let call = c.call;
     (0 < c.ring)
         & is_told(d, call)
-        & (answer.kind == sends::INDIVIDUAL as u32)
+        & (answer.kind == Call::INDIVIDUAL as u32)
         & (answer.source.digits == caller_of(call))
         & (answer.destination.digits == own.digits)
 }

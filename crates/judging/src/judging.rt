@@ -39,7 +39,7 @@ fn is_idle(c: Channel) -> bool
     let call = c.call;
     let arrival = c.arrival;
     !channel::is_held(holder)
-        & !sends::is_open(call)
+        & !channel::is_open(call)
         & !channel::is_present(arrival)
         & !(0 < c.ring)
 }

@@ -8,8 +8,8 @@ use lib.Dec.{leb, ltb}
 use borrow.Author.Tests.{leb-false, lt-ltb}
 use Rattle.laws.proofs.Tests.{either, by-branch}
 use Rattle.telegram.specs.declared.message.Number.{Number}
-use Rattle.channel.specs.State.{freeChannel, isHeld, heldBy, isPresent}
-use Rattle.line_rules.specs.Rules.{Step, happens, capture, captureAt, cut, release, pressOn, pressOff, mobileOn, mobileOff, ring, unanswered, answered, ringAnswer, tick, tickRing, tickIdle, tickQuiet, tickRelease, endTalk, endCall, quietTime, releaseTime, isOpen, isPressed, isRinging, openedBy, pressCall, mobileCall, mobileRecipients}
+use Rattle.channel.specs.State.{freeChannel, isHeld, heldBy, isPresent, isOpen}
+use Rattle.line_rules.specs.Rules.{Step, happens, capture, captureAt, cut, release, pressOn, pressOff, mobileOn, mobileOff, ring, unanswered, answered, ringAnswer, tick, tickRing, tickIdle, tickQuiet, tickRelease, endTalk, endCall, quietTime, releaseTime, isPressed, isRinging, openedBy, pressCall, mobileCall, mobileRecipients}
 use Rattle.line_rules.specs.Invariant.{Timed, RingCall, Rung, Idle, Fits}
 use Rattle.line_rules.proofs.Rings.{clash, pressed-silent, talk-silent}
 use Rattle.channel.specs.declared.state.Party.{Party}

@@ -11,8 +11,8 @@ use Rattle.laws.specs.Each.{Each}
 use Rattle.laws.proofs.Each.{each-append}
 use Rattle.laws.proofs.Tests.{either}
 use Rattle.telegram.specs.declared.message.Number.{Number}
-use Rattle.channel.specs.State.{only, isHeld, heldBy, holderPlace, isPresent}
-use Rattle.line_rules.specs.Rules.{Step, to, sentIf, callSends, openingSends, endOf, pressOffSends, mobileOffSends, ringOffSends, freedSends, capture, captureAt, cut, release, pressOn, pressCall, pressOff, mobileOn, mobileRecipients, mobileCall, mobileOff, ring, unanswered, answered, ringAnswer, tick, tickRing, tickIdle, tickQuiet, tickRelease, isOpen, isPressed, isRinging, endTalk, endCall, happens}
+use Rattle.channel.specs.State.{only, isHeld, heldBy, holderPlace, isPresent, isOpen}
+use Rattle.line_rules.specs.Rules.{Step, to, sentIf, callSends, openingSends, endOf, pressOffSends, mobileOffSends, ringOffSends, freedSends, capture, captureAt, cut, release, pressOn, pressCall, pressOff, mobileOn, mobileRecipients, mobileCall, mobileOff, ring, unanswered, answered, ringAnswer, tick, tickRing, tickIdle, tickQuiet, tickRelease, isPressed, isRinging, endTalk, endCall, happens}
 use Rattle.line_rules.specs.Promises.{GoesTo, OnToTheHolder, OffToTheTold, ToldAreKept, IsAbout, Concerned, AboutTheHolder, NumberForTheHolder, ArrivalOutlivesACut, OneTimerAtATime, TenAndAHundredAndThirty, quietly, byTicks, RingToTheCalled, RingEndToTheCalled, FourteenAndTheFifteenth, ringTicks, CancelIsTheSame, HandoverCancels}
 use Rattle.channel.specs.declared.state.Party.{Party}
 use Rattle.channel.specs.declared.state.Party.the-variants.{Nobody, By}

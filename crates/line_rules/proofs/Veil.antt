@@ -6,8 +6,8 @@ use mathlib.Core.Bool.{Bool, true, false}
 use mathlib.Core.Path.{_≡_, refl, ap}
 use Rattle.laws.proofs.Tests.{cond-of}
 use Rattle.telegram.specs.declared.message.Number.{Number}
-use Rattle.channel.specs.State.{only, isIn, isPresent}
-use Rattle.line_rules.specs.Rules.{Step, step, isOpen, openedBy, openingSends, endOf, kindOf, pressOffSends, mobileOffSends, ringOffSends, captureAt, capture, cut, release, pressOn, pressOff, mobileRecipients, mobileCall, mobileOn, mobileOff, ring, unanswered, answered, ringAnswer, tickQuiet, tickRelease, tickIdle, tickRing, tick, endTalk, endCall, happens}
+use Rattle.channel.specs.State.{only, isIn, isPresent, isOpen}
+use Rattle.line_rules.specs.Rules.{Step, step, openedBy, openingSends, endOf, kindOf, pressOffSends, mobileOffSends, ringOffSends, captureAt, capture, cut, release, pressOn, pressOff, mobileRecipients, mobileCall, mobileOn, mobileOff, ring, unanswered, answered, ringAnswer, tickQuiet, tickRelease, tickIdle, tickRing, tick, endTalk, endCall, happens}
 use Rattle.line_rules.specs.Veil.{veil, hideCall, hideArrival, hide, hideSend, hideSends, hideStep}
 use Rattle.channel.specs.declared.state.Party.{Party}
 use Rattle.channel.specs.declared.state.Party.the-variants.{Nobody, By}

@@ -9,7 +9,7 @@ use Rattle.laws.specs.Each.{Each}
 use Rattle.fields.specs.Fields.{between}
 use Rattle.telegram.specs.Telegram.{inRange}
 use Rattle.telegram.specs.declared.message.Number.{Number}
-use Rattle.channel.specs.State.{only, isHeld, isPresent}
+use Rattle.channel.specs.State.{only, isHeld, isPresent, isOpen}
 use Rattle.channel.specs.declared.state.Party.the-variants.{Nobody, By}
 use Rattle.channel.specs.declared.state.Call.{Call}
 use Rattle.channel.specs.declared.state.Call.the-variants.{Closed, Open}
@@ -21,7 +21,7 @@ use Rattle.channel.specs.declared.state.Event.the-variants.{Capture, Release, C
 use Rattle.channel.specs.declared.state.Notice.{Notice}
 use Rattle.channel.specs.declared.state.Notice.the-variants.{PressAnswer, Incoming, BaseArrival, Call as CallNotice, PressNotice, CallerNotice, CaptureReply, CaptureState, RingNotice, AnswerReply, CallResult}
 use Rattle.channel.specs.declared.state.Send.{Send}
-use Rattle.line_rules.specs.Rules.{Step, individual, up, isOpen, isPressed, isRinging}
+use Rattle.line_rules.specs.Rules.{Step, individual, up, isPressed, isRinging}
 use Rattle.line_rules.specs.Notices.{Content, telegram, contact}
 
 -- ---- numbers and codes in range

@@ -10,8 +10,8 @@ use lib.ListN.{replicate}
 use Rattle.laws.specs.Each.{Each}
 use Rattle.telegram.specs.Telegram.{num}
 use Rattle.telegram.specs.declared.message.Number.{Number}
-use Rattle.channel.specs.State.{only, isIn, freeChannel, isHeld, isPresent, holderPlace}
-use Rattle.line_rules.specs.Rules.{quietTime, releaseTime, to, isRinging, cut, pressOff, mobileOn, mobileOff, ringCall, ring, unanswered, tick, isOpen, endOf, freedSends, mobileRecipients, happens}
+use Rattle.channel.specs.State.{only, isIn, freeChannel, isHeld, isPresent, holderPlace, isOpen}
+use Rattle.line_rules.specs.Rules.{quietTime, releaseTime, to, isRinging, cut, pressOff, mobileOn, mobileOff, ringCall, ring, unanswered, tick, endOf, freedSends, mobileRecipients, happens}
 use Rattle.line_rules.specs.Notices.{contentFor}
 use Rattle.line_rules.specs.Veil.{hideCall, hideArrival, hide, hideStep}
 use Rattle.line_rules.specs.Turns.{ordersTo, lasting, ByTurns, Begins}

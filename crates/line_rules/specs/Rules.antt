@@ -4,7 +4,7 @@ use mathlib.Core.List.{List, [], _∷_, _++_}
 use mathlib.Core.Bool.{Bool, true, false, cond}
 use lib.Dec.{leb, ltb, eqb}
 use Rattle.telegram.specs.declared.message.Number.{Number}
-use Rattle.channel.specs.State.{only, freeChannel, isHeld, heldBy, holderPlace, isPresent}
+use Rattle.channel.specs.State.{only, freeChannel, isHeld, heldBy, holderPlace, partySet, isOpen, isPresent}
 use Rattle.channel.specs.declared.state.Party.{Party}
 use Rattle.channel.specs.declared.state.Party.the-variants.{Nobody, By}
 use Rattle.channel.specs.declared.state.Call.{Call}
@@ -91,21 +91,12 @@ withArrival a c =
 
 -- ---- choices by what the channel has
 
--- a desk or none, as a set
-abbrev pub partySet : Party → ℕ
-partySet Nobody = 0
-partySet (By d) = only d
-
 abbrev pub isPressed : Channel → Bool
 isPressed c = isHeld (c .presser)
 
 -- a mobile rings: "ring clock"
 abbrev pub isRinging : Channel → Bool
 isRinging c = ltb 0 (c .ring)
-
-abbrev pub isOpen : Call → Bool
-isOpen Closed = false
-isOpen (Open k d m b s) = true
 
 -- "if no call is open, one opens"
 abbrev pub openedBy : Call → Call → Call

@@ -6,9 +6,7 @@ use channel::Notice;
 use channel::Party;
 use channel::Send;
 use channel::only;
-use sends::INDIVIDUAL;
 use sends::SILENT;
-use sends::UP;
 use sends::alone;
 use sends::end;
 use sends::ring_off_sends;
@@ -47,8 +45,8 @@ pub fn ring(d: u8, base: u8, number: Number, channel: Channel) -> Moved
 {
     let recipients = only(d);
     let call = Call::Open {
-        kind: INDIVIDUAL,
-        direction: UP,
+        kind: Call::INDIVIDUAL,
+        direction: Call::UP,
         recipients,
         base: base as u16,
         source: number,

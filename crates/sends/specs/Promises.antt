@@ -4,7 +4,8 @@ use Prim.Native.Nat.{ℕ}
 use mathlib.Core.List.{List, [], _∷_, _++_}
 use mathlib.Core.Bool.{Bool, cond}
 use mathlib.Core.Path.{_≡_}
-use Rattle.line_rules.specs.Rules.{to, sentIf, partySet, kindOf, pressOffSends}
+use Rattle.channel.specs.State.{partySet}
+use Rattle.line_rules.specs.Rules.{to, sentIf, kindOf, pressOffSends}
 use Rattle.channel.specs.declared.state.Party.{Party}
 use Rattle.channel.specs.declared.state.Call.{Call}
 use Rattle.channel.specs.declared.state.Notice.{Notice}

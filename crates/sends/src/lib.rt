@@ -1,15 +1,6 @@
-// What the code of the line rules is made of: what a rule chooses by the parts of a channel, and what it sends.
-mod choices;
+// What the code of the line rules sends.
 mod sends;
 
-pub use choices::DOWN;
-pub use choices::GENERAL;
-pub use choices::INDIVIDUAL;
-pub use choices::UP;
-pub use choices::is_open;
-pub use choices::kind_of;
-pub use choices::set_if;
-pub use choices::set_of;
 pub use sends::MobileSends;
 pub use sends::PressSends;
 pub use sends::RingSends;
@@ -17,6 +8,7 @@ pub use sends::SILENT;
 pub use sends::alone;
 pub use sends::end;
 pub use sends::freed;
+pub use sends::kind_of;
 pub use sends::mobile_off_sends;
 pub use sends::mobile_sends;
 pub use sends::opening;

@@ -1,23 +1,31 @@
 // What the rules send. A send to the empty set stands where a rule sends nothing.
-use super::choices::GENERAL;
-use super::choices::NOBODY;
-use super::choices::kind_of;
-use super::choices::set_if;
 use channel::Arrival;
 use channel::Call;
 use channel::Channel;
 use channel::Moved;
+use channel::NOBODY;
 use channel::Notice;
 use channel::Party;
 use channel::Send;
 use channel::holder_place;
+use channel::set_if;
 use telegram::Number;
 ghost use mathlib.Core.Path.{_≡_};
 ghost use mathlib.Core.List.{[], _∷_};
 ghost use Rattle.channel.specs.State.{holderPlace};
-ghost use Rattle.line_rules.specs.Rules.{step, to, sentIf, callSends, startOf, openingSends, endOf, mobileOffSends, ringOffSends};
+ghost use Rattle.line_rules.specs.Rules.{step, to, sentIf, kindOf, callSends, startOf, openingSends, endOf, mobileOffSends, ringOffSends};
 ghost use Rattle.sends.specs.Scripts.{Follows, heard, pressSends, mobileSends};
 ghost use Rattle.channel.specs.declared.state.Notice.the-variants.{CaptureState};
+
+// The type of the talk in a call.
+pub fn kind_of(call: Call) -> u8
+    ensures { λ r. ⌜ r ≡ kindOf call ⌝ }
+{
+    match call {
+        Call::Closed => Call::GENERAL,
+        Call::Open { kind, .. } => kind,
+    }
+}
 
 // Stands where a rule sends nothing.
 pub const SILENT: Send = Send {
@@ -138,7 +146,7 @@ pub fn mobile_off_sends(arrival: Arrival) -> MobileSends
     ensures { λ r. ⌜ heard (r .incoming ∷ r .arrival ∷ r .talk ∷ []) ≡ heard (mobileOffSends arrival) ⌝ }
 {
     match arrival {
-        Arrival::Absent => mobile_sends(0, GENERAL, 0, Number::NONE, NOBODY),
+        Arrival::Absent => mobile_sends(0, Call::GENERAL, 0, Number::NONE, NOBODY),
         Arrival::Present {
             kind,
             recipients,

@@ -12,7 +12,7 @@ use Rattle.laws.proofs.Each.{_▹_}
 use Rattle.laws.proofs.Tests.{both, neither}
 use Rattle.telegram.specs.Telegram.{readTelegram}
 use Rattle.telegram.specs.declared.message.Reading.{Reading}
-use Rattle.channel.specs.State.{isIn, isHeld, heldBy, isPresent}
+use Rattle.channel.specs.State.{isIn, isHeld, heldBy, isPresent, isOpen}
 use Rattle.channel.specs.declared.state.Party.{Party}
 use Rattle.channel.specs.declared.state.Party.the-variants.{Nobody, By}
 use Rattle.channel.specs.declared.state.Call.{Call}
@@ -20,7 +20,7 @@ use Rattle.channel.specs.declared.state.Call.the-variants.{Closed, Open}
 use Rattle.channel.specs.declared.state.Arrival.{Arrival}
 use Rattle.channel.specs.declared.state.Arrival.the-variants.{Absent, Present}
 use Rattle.channel.specs.declared.state.Channel.{Channel}
-use Rattle.line_rules.specs.Rules.{isPressed, isOpen, isRinging}
+use Rattle.line_rules.specs.Rules.{isPressed, isRinging}
 use Rattle.line_rules.specs.Invariant.{Idle}
 use Rattle.set_state.specs.State.{channelAt, listenersOf}
 use Rattle.set_rules.specs.Entries.{telegramIn}

@@ -9,8 +9,8 @@ use lib.Dec.{eqb, ltb}
 use lib.ListN.{length, replicate, getD}
 use borrow.Author.Tests.{ltb-false}
 use Rattle.laws.proofs.Tests.{by-test}
-use Rattle.channel.specs.State.{isIn, isHeld}
-use Rattle.line_rules.specs.Rules.{happens, pressOff, tick, tickIdle, tickQuiet, tickRelease, isOpen, isPressed, isRinging, endOf, freedSends}
+use Rattle.channel.specs.State.{isIn, isHeld, isOpen}
+use Rattle.line_rules.specs.Rules.{happens, pressOff, tick, tickIdle, tickQuiet, tickRelease, isPressed, isRinging, endOf, freedSends}
 use Rattle.line_rules.specs.Promises.{quietly}
 use Rattle.channel.specs.declared.state.Party.the-variants.{By}
 use Rattle.channel.specs.declared.state.Call.{Call}

@@ -6,8 +6,8 @@ use mathlib.Core.Path.{_≡_}
 use lib.ListN.{length, replicate, getD}
 use Rattle.laws.specs.Each.{Each}
 use Rattle.telegram.specs.Telegram.{readTelegram, readRefusal}
-use Rattle.line_rules.specs.Rules.{isOpen, endOf, freedSends}
-use Rattle.channel.specs.State.{isHeld}
+use Rattle.line_rules.specs.Rules.{endOf, freedSends}
+use Rattle.channel.specs.State.{isHeld, isOpen}
 use Rattle.channel.specs.declared.state.Arrival.the-variants.{Absent}
 use Rattle.channel.specs.declared.state.Channel.{Channel}
 use Rattle.channel.specs.declared.state.Party.the-variants.{By}

@@ -13,8 +13,8 @@ use Rattle.telegram.specs.declared.message.Message.{Message}
 use Rattle.telegram.specs.declared.message.Message.the-variants.{TimeNotice, RingAnswer as Answers, OperationAnswer, TimeRequest, BaseArrival, RingNotice, AnswerReply, OperationRequest, Call, CallerNotice, CallResult, CaptureRequest, CaptureReply, CaptureState}
 use Rattle.telegram.specs.declared.message.Reading.{Reading}
 use Rattle.telegram.specs.declared.message.Reading.the-variants.{Telegram as Read, Refused}
-use Rattle.channel.specs.State.{isIn, isHeld, heldBy, isPresent}
-use Rattle.line_rules.specs.Rules.{isPressed, isOpen, isRinging}
+use Rattle.channel.specs.State.{isIn, isHeld, heldBy, isPresent, isOpen}
+use Rattle.line_rules.specs.Rules.{isPressed, isRinging}
 use Rattle.set_state.specs.State.{noDesk, hasChannel, channelAt, listenersOf, deskPlace}
 use Rattle.set_rules.specs.Entries.{telegramIn, planIn}
 use Rattle.set_rules.specs.Plan.{planOk}

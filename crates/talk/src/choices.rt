@@ -4,15 +4,14 @@ use channel::Call;
 use channel::Channel;
 use channel::Party;
 use channel::is_held;
+use channel::is_open;
 use channel::is_present;
-use sends::GENERAL;
-use sends::is_open;
-use sends::set_of;
+use channel::set_of;
 use telegram::Number;
 ghost use mathlib.Core.Path.{_≡_};
 ghost use mathlib.Core.Bool.{cond};
-ghost use Rattle.channel.specs.State.{isHeld, isPresent};
-ghost use Rattle.line_rules.specs.Rules.{quietTime, releaseTime, general, isOpen, openedBy, mobileRecipients};
+ghost use Rattle.channel.specs.State.{isHeld, isPresent, isOpen};
+ghost use Rattle.line_rules.specs.Rules.{quietTime, releaseTime, general, openedBy, mobileRecipients};
 ghost use Rattle.channel.specs.declared.state.Call.the-variants.{Open};
 
 // The base of what a desk says.
@@ -34,7 +33,7 @@ pub fn new_call(direction: u8, recipients: u8, base: u16, source: Number) -> Cal
     ensures { λ r. ⌜ r ≡ Open general direction recipients base source ⌝ }
 {
     Call::Open {
-        kind: GENERAL,
+        kind: Call::GENERAL,
         direction,
         recipients,
         base,

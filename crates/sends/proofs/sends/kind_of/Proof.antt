@@ -1,9 +1,9 @@
--- `sends::choices::kind_of` meets its contract: by the cases of the call.
+-- `sends::sends::kind_of` meets its contract: by the cases of the call.
 -- Assumes nothing.
 use borrow.Author.Needs.{needs}
 use mathlib.Core.Path.{refl}
-use Rattle.sends.proofs.choices.kind_of.Statement.{statement}
-use Rattle.sends.proofs.choices.kind_of.Tie as tie
+use Rattle.sends.proofs.sends.kind_of.Statement.{statement}
+use Rattle.sends.proofs.sends.kind_of.Tie as tie
 
 returns : tie.Need-returns
 returns c = search needs

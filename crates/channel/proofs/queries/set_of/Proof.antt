@@ -1,8 +1,8 @@
--- `sends::choices::set_of` meets its contract: by the cases of the party.
+-- `channel::queries::set_of` meets its contract: by the cases of the party.
 -- Assumes nothing.
 use borrow.Author.Needs.{needs}
-use Rattle.sends.proofs.choices.set_of.Statement.{statement}
-use Rattle.sends.proofs.choices.set_of.Tie as tie
+use Rattle.channel.proofs.queries.set_of.Statement.{statement}
+use Rattle.channel.proofs.queries.set_of.Tie as tie
 
 returns : tie.Need-returns
 returns c = search needs
