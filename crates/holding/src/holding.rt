@@ -49,6 +49,7 @@ fn captured(listeners: u8, d: u8, channel: Channel) -> Moved
     let arrival = channel.arrival;
     let answer = reply(d, 0);
     let state = taken(listeners, d);
+    let silent = SILENT;
     Moved {
         next: Channel {
             code: channel.code,
@@ -61,7 +62,7 @@ fn captured(listeners: u8, d: u8, channel: Channel) -> Moved
             call,
             arrival,
         },
-        sends: [answer, state, SILENT, SILENT, SILENT, SILENT, SILENT],
+        sends: [answer, state, silent, silent, silent, silent, silent],
     }
 }
 
@@ -101,6 +102,7 @@ fn cut_after(first: Send, listeners: u8, channel: Channel) -> Moved
     let talk = off.talk;
     let end = end(1, call);
     let state = freed(listeners, holder);
+    let silent = SILENT;
     Moved {
         next: Channel {
             code: channel.code,
@@ -113,7 +115,7 @@ fn cut_after(first: Send, listeners: u8, channel: Channel) -> Moved
             call: Call::Closed,
             arrival: stays,
         },
-        sends: [first, answer, talk, end, state, SILENT, SILENT],
+        sends: [first, answer, talk, end, state, silent, silent],
     }
 }
 

@@ -40,9 +40,10 @@ fn end_talk(channel: Channel) -> Moved
     let arrival = mobile.arrival;
     let mobile_talk = mobile.talk;
     let next = Channel::new(channel.code, channel.entitled);
+    let silent = SILENT;
     Moved {
         next,
-        sends: [answer, talk, incoming, arrival, mobile_talk, SILENT, SILENT],
+        sends: [answer, talk, incoming, arrival, mobile_talk, silent, silent],
     }
 }
 
@@ -59,9 +60,10 @@ fn end_call(listeners: u8, channel: Channel) -> Moved
     let recipients = set_if(is_held(holder), listeners);
     let state = freed(recipients, holder);
     let next = Channel::new(channel.code, channel.entitled);
+    let silent = SILENT;
     Moved {
         next,
-        sends: [incoming, result, end, state, SILENT, SILENT, SILENT],
+        sends: [incoming, result, end, state, silent, silent, silent],
     }
 }
 

@@ -61,9 +61,10 @@ pub fn ring(d: u8, base: u8, number: Number, channel: Channel) -> Moved
     };
     let start = start(call);
     let next = with_ring(Channel::RING, call, channel);
+    let silent = SILENT;
     Moved {
         next,
-        sends: [incoming, notice, start, SILENT, SILENT, SILENT, SILENT],
+        sends: [incoming, notice, start, silent, silent, silent, silent],
     }
 }
 
@@ -77,9 +78,10 @@ pub fn unanswered(reason: u8, channel: Channel) -> Moved
     let result = off.result;
     let end = end(reason, call);
     let next = with_ring(0, Call::Closed, channel);
+    let silent = SILENT;
     Moved {
         next,
-        sends: [incoming, result, end, SILENT, SILENT, SILENT, SILENT],
+        sends: [incoming, result, end, silent, silent, silent, silent],
     }
 }
 
@@ -108,6 +110,7 @@ fn answered(listeners: u8, d: u8, channel: Channel) -> Moved
         notice: Notice::CallResult { result: 1 },
     };
     let state = taken(listeners, d);
+    let silent = SILENT;
     Moved {
         next: Channel {
             code: channel.code,
@@ -120,7 +123,7 @@ fn answered(listeners: u8, d: u8, channel: Channel) -> Moved
             call,
             arrival,
         },
-        sends: [answer, result, state, SILENT, SILENT, SILENT, SILENT],
+        sends: [answer, result, state, silent, silent, silent, silent],
     }
 }
 

@@ -218,8 +218,9 @@ pub fn freed(recipients: u8, holder: Party) -> Send
 pub fn alone(next: Channel, send: Send) -> Moved
     ensures { λ r. ⌜ Follows r (step next (send ∷ [])) ⌝ }
 {
+    let silent = SILENT;
     Moved {
         next,
-        sends: [send, SILENT, SILENT, SILENT, SILENT, SILENT, SILENT],
+        sends: [send, silent, silent, silent, silent, silent, silent],
     }
 }

@@ -38,6 +38,7 @@ pub fn press_on(d: u8, number: Number, channel: Channel) -> Moved
     let talk = on.talk;
     let call = opened_by(before, new);
     let quiet = 0;
+    let silent = SILENT;
     Moved {
         next: Channel {
             code: channel.code,
@@ -50,7 +51,7 @@ pub fn press_on(d: u8, number: Number, channel: Channel) -> Moved
             call,
             arrival,
         },
-        sends: [answer, start, talk, SILENT, SILENT, SILENT, SILENT],
+        sends: [answer, start, talk, silent, silent, silent, silent],
     }
 }
 
@@ -66,6 +67,7 @@ pub fn press_off(channel: Channel) -> Moved
     let talk = off.talk;
     let quiet = quiet_after_press(arrival, channel.quiet);
     let release = Channel::RELEASE;
+    let silent = SILENT;
     Moved {
         next: Channel {
             code: channel.code,
@@ -78,7 +80,7 @@ pub fn press_off(channel: Channel) -> Moved
             call,
             arrival,
         },
-        sends: [answer, talk, SILENT, SILENT, SILENT, SILENT, SILENT],
+        sends: [answer, talk, silent, silent, silent, silent, silent],
     }
 }
 
@@ -98,6 +100,7 @@ pub fn mobile_on(listeners: u8, base: u8, number: Number, channel: Channel) -> M
     let talk = on.talk;
     let call = opened_by(before, new);
     let left = release_after(holder, channel.release);
+    let silent = SILENT;
     Moved {
         next: Channel {
             code: channel.code,
@@ -115,7 +118,7 @@ pub fn mobile_on(listeners: u8, base: u8, number: Number, channel: Channel) -> M
                 number,
             },
         },
-        sends: [incoming, arrival, start, talk, SILENT, SILENT, SILENT],
+        sends: [incoming, arrival, start, talk, silent, silent, silent],
     }
 }
 
@@ -133,6 +136,7 @@ pub fn mobile_off(channel: Channel) -> Moved
     let talk = off.talk;
     let quiet = quiet_after_mobile(call, presser, channel.quiet);
     let release = release_after(holder, channel.release);
+    let silent = SILENT;
     Moved {
         next: Channel {
             code: channel.code,
@@ -145,6 +149,6 @@ pub fn mobile_off(channel: Channel) -> Moved
             call,
             arrival: Arrival::Absent,
         },
-        sends: [incoming, arrival, talk, SILENT, SILENT, SILENT, SILENT],
+        sends: [incoming, arrival, talk, silent, silent, silent, silent],
     }
 }
