@@ -28,11 +28,12 @@ use Rattle.set_state.specs.declared.state.LineSet.{LineSet}
 use Rattle.set_state.specs.declared.state.LinkRequest.{LinkRequest}
 use Rattle.set_state.specs.declared.state.Request.{Request}
 use Rattle.set_state.specs.declared.state.Request.the-variants.{OfLink as LinkIs, OnChannel as ChannelIs, AnswersRing as RingIs, Foreign}
-use Rattle.requests.specs.Asking.{seen, early, codeOf, asking, eventOf, askedOf}
-use Rattle.requests.specs.declared.request.Asked.{Asked}
-use Rattle.requests.specs.declared.request.Asked.the-variants.{Refusal, OfLink, OfLine}
-use Rattle.requests.specs.declared.request.LineRequest.{LineRequest}
-use Rattle.requests.specs.declared.request.LineRequest.the-variants.{OnChannel, AnswersRing}
+use Rattle.telegram_requests.specs.Asking.{codeOf, asking}
+use Rattle.telegram_requests.specs.declared.request.Asked.{Asked}
+use Rattle.telegram_requests.specs.declared.request.Asked.the-variants.{Refusal, OfLink, OfLine}
+use Rattle.telegram_requests.specs.declared.request.LineRequest.{LineRequest}
+use Rattle.telegram_requests.specs.declared.request.LineRequest.the-variants.{OnChannel, AnswersRing}
+use Rattle.requests.specs.Asking.{seen, early, eventOf, askedOf}
 use Rattle.requests.proofs.Kept.{foreign-refused}
 use Rattle.judging.specs.Judging.{late, usable, refusalBy}
 use Rattle.judging.specs.Promises.{LineKind}

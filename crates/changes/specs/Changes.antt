@@ -19,10 +19,11 @@ use Rattle.set_state.specs.declared.state.Desk.{Desk}
 use Rattle.set_state.specs.declared.state.Entry.{Entry}
 use Rattle.set_state.specs.declared.state.LineSet.{LineSet}
 use Rattle.set_state.specs.declared.state.Answer.{Answer}
-use Rattle.requests.specs.Asking.{seen, codeOf, askedOf}
-use Rattle.requests.specs.declared.request.Asked.the-variants.{OfLine}
-use Rattle.requests.specs.declared.request.LineRequest.{LineRequest}
-use Rattle.requests.specs.declared.request.LineRequest.the-variants.{OnChannel, AnswersRing}
+use Rattle.telegram_requests.specs.Asking.{codeOf}
+use Rattle.telegram_requests.specs.declared.request.Asked.the-variants.{OfLine}
+use Rattle.telegram_requests.specs.declared.request.LineRequest.{LineRequest}
+use Rattle.telegram_requests.specs.declared.request.LineRequest.the-variants.{OnChannel, AnswersRing}
+use Rattle.requests.specs.Asking.{seen, askedOf}
 use Rattle.judging.specs.Promises.{LineKind}
 use Rattle.changes.specs.declared.change.Change.{Change}
 use Rattle.changes.specs.declared.link.LinkChange.{LinkChange}

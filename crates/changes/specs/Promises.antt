@@ -13,8 +13,8 @@ use Rattle.set_rules.specs.Feeds.{refuse, emit, outcomeOf}
 use Rattle.set_state.specs.declared.state.Desk.{Desk}
 use Rattle.set_state.specs.declared.state.Entry.{Entry}
 use Rattle.set_state.specs.declared.state.LinkRequest.{LinkRequest}
+use Rattle.telegram_requests.specs.declared.request.Asked.the-variants.{Refusal, OfLink}
 use Rattle.requests.specs.Asking.{seen, askedOf}
-use Rattle.requests.specs.declared.request.Asked.the-variants.{Refusal, OfLink}
 use Rattle.changes.specs.Changes.{setWith}
 
 -- Sends that are heard alike take the same space (`same-space`) and have the same records (`same-records`).

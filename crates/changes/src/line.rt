@@ -4,9 +4,9 @@ use super::change::Change;
 use super::lookup;
 use channel::Channel;
 use channel::Event;
-use requests::LineRequest;
 use set_state::Desk;
 use set_state::Entry;
+use telegram_requests::LineRequest;
 ghost use mathlib.Core.Path.{_≡_};
 ghost use Rattle.changes.specs.Changes.{Hears, RefusedWith, eventFor, AnswersTo};
 

@@ -18,10 +18,11 @@ use Rattle.set_rules.specs.Refusals.{firstOf}
 use Rattle.set_state.specs.declared.state.Desk.{Desk}
 use Rattle.set_state.specs.declared.state.Entry.{Entry}
 use Rattle.set_state.specs.declared.state.LineSet.{LineSet}
-use Rattle.requests.specs.Asking.{seen, early, codeOf, unless, askedOf}
-use Rattle.requests.specs.declared.request.Asked.{Asked}
-use Rattle.requests.specs.declared.request.Asked.the-variants.{Refusal, OfLine}
-use Rattle.requests.specs.declared.request.LineRequest.{LineRequest}
+use Rattle.telegram_requests.specs.Asking.{codeOf}
+use Rattle.telegram_requests.specs.declared.request.Asked.{Asked}
+use Rattle.telegram_requests.specs.declared.request.Asked.the-variants.{Refusal, OfLine}
+use Rattle.telegram_requests.specs.declared.request.LineRequest.{LineRequest}
+use Rattle.requests.specs.Asking.{seen, early, unless, askedOf}
 use Rattle.judging.specs.Promises.{LineKind}
 use Rattle.changes.specs.Changes.{Asks}
 use Rattle.line_set.proofs.Lengths.{kind-range}

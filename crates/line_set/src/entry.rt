@@ -3,9 +3,9 @@ use super::all;
 use super::places;
 use channel::Event;
 use channel::Falling;
-use requests::Asked;
 use set_state::Answer;
 use set_state::LineSet;
+use telegram_requests::Asked;
 ghost use lib.ListN.{length};
 ghost use Rattle.set_rules.specs.Feeds.{Gives, stepOf};
 
@@ -100,7 +100,7 @@ pub fn step(mut set: LineSet, entry: &[u8], buffer: &mut [u8]) -> Answer
             }
             Asked::OfLine(request) => {
                 // The channel with the code is sought.
-                let code = requests::code_of(request);
+                let code = telegram_requests::code_of(request);
                 let mut i = 0;
                 while i < count {
                     let c = set.channels[i];

@@ -16,11 +16,12 @@ use Rattle.telegram.specs.declared.message.Reading.the-variants.{Telegram, Refu
 use Rattle.set_rules.specs.Refusals.{deskSends, codeIs, identifierIs, bodyReads, askedBy, askedIn, phaseOf}
 use Rattle.set_state.specs.declared.state.Request.{Request}
 use Rattle.set_state.specs.declared.state.Request.the-variants.{OfLink as LinkIs, OnChannel as ChannelIs, AnswersRing as RingIs, Foreign}
-use Rattle.requests.specs.Asking.{asking, telegramAsked, inPhase, unless}
+use Rattle.telegram_requests.specs.Asking.{asking, telegramAsked}
+use Rattle.telegram_requests.specs.declared.request.Asked.{Asked}
+use Rattle.telegram_requests.specs.declared.request.Asked.the-variants.{Refusal, OfLink, OfLine}
+use Rattle.telegram_requests.specs.declared.request.LineRequest.the-variants.{OnChannel, AnswersRing}
+use Rattle.requests.specs.Asking.{inPhase, unless}
 use Rattle.requests.specs.Promises.{ForeignRefused}
-use Rattle.requests.specs.declared.request.Asked.{Asked}
-use Rattle.requests.specs.declared.request.Asked.the-variants.{Refusal, OfLink, OfLine}
-use Rattle.requests.specs.declared.request.LineRequest.the-variants.{OnChannel, AnswersRing}
 
 -- a desk that is there, or none that is asked for
 pub desk-there : (t : Bool) (n d : ℕ) → (t && leb n d) ≡ false → (t && not (ltb d n)) ≡ false

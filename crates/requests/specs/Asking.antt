@@ -7,21 +7,19 @@ use lib.ListN.{take}
 use Rattle.telegram.specs.Telegram.{num, readTelegram}
 use Rattle.telegram.specs.declared.message.Number.{Number}
 use Rattle.telegram.specs.declared.message.Reading.{Reading}
-use Rattle.telegram.specs.declared.message.Reading.the-variants.{Telegram, Refused}
 use Rattle.channel.specs.declared.state.Channel.{Channel}
 use Rattle.channel.specs.declared.state.Event.{Event}
 use Rattle.channel.specs.declared.state.Event.the-variants.{Cut, PressOn, PressOff, MobileOn, MobileOff, Ring, Cancel}
 use Rattle.set_state.specs.State.{ownOf}
 use Rattle.set_rules.specs.Entries.{telegramIn}
-use Rattle.set_rules.specs.Refusals.{Lookup, Test, isKind, codeIs, identifierIs, askedBy, askedIn, phaseOf, numberIn, calledPlace, table, firstOf}
+use Rattle.set_rules.specs.Refusals.{Lookup, Test, isKind, askedIn, phaseOf, numberIn, calledPlace, table, firstOf}
 use Rattle.set_state.specs.declared.state.Desk.{Desk}
 use Rattle.set_state.specs.declared.state.Entry.{Entry}
-use Rattle.set_state.specs.declared.state.Request.{Request}
-use Rattle.set_state.specs.declared.state.Request.the-variants.{OfLink as LinkIs, OnChannel as ChannelIs, AnswersRing as RingIs, Foreign}
-use Rattle.requests.specs.declared.request.Asked.{Asked}
-use Rattle.requests.specs.declared.request.Asked.the-variants.{Refusal, OfLink, OfLine}
-use Rattle.requests.specs.declared.request.LineRequest.{LineRequest}
-use Rattle.requests.specs.declared.request.LineRequest.the-variants.{OnChannel, AnswersRing}
+use Rattle.set_state.specs.declared.state.Request.the-variants.{OfLink as LinkIs}
+use Rattle.telegram_requests.specs.Asking.{asking}
+use Rattle.telegram_requests.specs.declared.request.Asked.{Asked}
+use Rattle.telegram_requests.specs.declared.request.Asked.the-variants.{Refusal, OfLink, OfLine}
+use Rattle.telegram_requests.specs.declared.request.LineRequest.the-variants.{OnChannel}
 
 -- what the rows go by, as the code has it
 abbrev pub seen : Bool → List Desk → ℕ → Bool → Channel → Lookup
@@ -30,27 +28,6 @@ seen planned ds n found c = record { planned = planned; desks = ds; count = n; f
 -- the rows 4 to 11, which do not look at a channel
 abbrev pub early : List (ℕ × Test)
 early = take 8 table
-
--- the code of the channel that is asked about
-abbrev pub codeOf : LineRequest → ℕ
-codeOf (OnChannel ch n v) = ch
-codeOf (AnswersRing m) = m .channel
-
--- what a request asks; one that no desk sends is 9
-abbrev pub asking : Request → Asked
-asking (LinkIs q) = OfLink q
-asking (ChannelIs ch n v) = OfLine (OnChannel ch n v)
-asking (RingIs m) = OfLine (AnswersRing m)
-asking Foreign = Refusal 9
-
--- why a telegram that does not read is refused
-abbrev pub unreadAs : ℕ → Reading → ℕ
-unreadAs k r = cond (codeIs k r) (cond (identifierIs r) 10 9) 8
-
--- what the telegram of desk d, whose code is k, asks
-abbrev pub telegramAsked : ℕ → ℕ → Reading → Asked
-telegramAsked d k (Telegram c m) = cond (eqb c k) (asking (askedBy d m)) (Refusal 8)
-telegramAsked d k (Refused n c i) = Refusal (unreadAs k (Refused n c i))
 
 -- what is asked, if the link is in the phase that it needs
 abbrev pub inPhase : ℕ → Asked → Asked

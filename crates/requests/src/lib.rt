@@ -1,7 +1,4 @@
 // What an entry asks about one desk's link or one channel, or its refusal up to 11.
 mod request;
 
-pub use request::Asked;
-pub use request::LineRequest;
 pub use request::asked_of;
-pub use request::code_of;

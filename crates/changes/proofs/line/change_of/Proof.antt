@@ -6,7 +6,7 @@ use lib.ListN.{length}
 use Rattle.channel.specs.declared.state.Event.{Event}
 use Rattle.set_rules.specs.SetRules.{onChannel}
 use Rattle.set_rules.specs.Feeds.{emit}
-use Rattle.requests.specs.Asking.{codeOf}
+use Rattle.telegram_requests.specs.Asking.{codeOf}
 use Rattle.changes.specs.Changes.{setWith}
 use Rattle.set_rules.proofs.Kept.{gives-as}
 use Rattle.changes.proofs.Changing.{refused}

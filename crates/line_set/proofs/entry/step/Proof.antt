@@ -21,9 +21,10 @@ use Rattle.set_rules.specs.SetRules.{onTick, onHandover}
 use Rattle.set_state.specs.declared.state.LineSet.{LineSet}
 use Rattle.set_rules.proofs.Kept.{space-length, gives-as, left-as-was, no-room}
 use Rattle.records.proofs.Kept.{put-first}
-use Rattle.requests.specs.Asking.{seen, codeOf, askedOf}
-use Rattle.requests.specs.declared.request.Asked.{Asked}
-use Rattle.requests.specs.declared.request.LineRequest.{LineRequest}
+use Rattle.telegram_requests.specs.Asking.{codeOf}
+use Rattle.telegram_requests.specs.declared.request.Asked.{Asked}
+use Rattle.telegram_requests.specs.declared.request.LineRequest.{LineRequest}
+use Rattle.requests.specs.Asking.{seen, askedOf}
 use Rattle.changes.specs.Changes.{Asks}
 use Rattle.changes.proofs.Kept.{refused-as, linked-as}
 use Rattle.line_set.proofs.Emission.{even-handover, settled-new, settled-old, kept}

@@ -15,10 +15,11 @@ use Rattle.channel.specs.declared.state.Event.{Event}
 use Rattle.set_state.specs.State.{noDesk}
 use Rattle.set_rules.specs.Refusals.{fromDesk, firstOf}
 use Rattle.set_state.specs.declared.state.Desk.{Desk}
-use Rattle.requests.specs.Asking.{telegramAsked, inPhase, askedOf}
-use Rattle.requests.specs.declared.request.Asked.{Asked}
-use Rattle.requests.specs.declared.request.Asked.the-variants.{OfLine}
-use Rattle.requests.specs.declared.request.LineRequest.the-variants.{OnChannel}
+use Rattle.telegram_requests.specs.Asking.{telegramAsked}
+use Rattle.telegram_requests.specs.declared.request.Asked.{Asked}
+use Rattle.telegram_requests.specs.declared.request.Asked.the-variants.{OfLine}
+use Rattle.telegram_requests.specs.declared.request.LineRequest.the-variants.{OnChannel}
+use Rattle.requests.specs.Asking.{inPhase, askedOf}
 use Rattle.requests.proofs.Asked.{desk-there, past-five, telegram-form}
 use borrow.Author.Needs.{needs}
 use Rattle.requests.proofs.request.asked_of.Statement.{statement}

@@ -1,12 +1,12 @@
--- `requests::request::unread_request` meets its contract, arm by arm.
+-- `telegram_requests::request::unread_request` meets its contract, arm by arm.
 -- Assumes nothing.
 use Prim.Native.Nat.{ℕ}
 use mathlib.Core.Path.{_≡_, refl, sym, ap, _∙_}
 use native.Mathlib.Omega.{arith}
-use Rattle.requests.specs.declared.request.Asked.the-variants.{Refusal}
+use Rattle.telegram_requests.specs.declared.request.Asked.the-variants.{Refusal}
 use borrow.Author.Needs.{needs}
-use Rattle.requests.proofs.request.unread_request.Statement.{statement}
-use Rattle.requests.proofs.request.unread_request.Tie as tie
+use Rattle.telegram_requests.proofs.request.unread_request.Statement.{statement}
+use Rattle.telegram_requests.proofs.request.unread_request.Tie as tie
 
 -- one that reads is none of these
 returns : tie.Need-returns

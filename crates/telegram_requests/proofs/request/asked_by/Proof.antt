@@ -1,12 +1,12 @@
--- `requests::request::asked_by` meets its contract, arm by arm.
+-- `telegram_requests::request::asked_by` meets its contract, arm by arm.
 -- Assumes nothing.
 use mathlib.Core.Path.{refl, ap}
 use Rattle.channel.specs.declared.state.Event.{Event}
-use Rattle.requests.specs.declared.request.Asked.the-variants.{OfLine}
-use Rattle.requests.specs.declared.request.LineRequest.the-variants.{OnChannel}
+use Rattle.telegram_requests.specs.declared.request.Asked.the-variants.{OfLine}
+use Rattle.telegram_requests.specs.declared.request.LineRequest.the-variants.{OnChannel}
 use borrow.Author.Needs.{needs}
-use Rattle.requests.proofs.request.asked_by.Statement.{statement}
-use Rattle.requests.proofs.request.asked_by.Tie as tie
+use Rattle.telegram_requests.proofs.request.asked_by.Statement.{statement}
+use Rattle.telegram_requests.proofs.request.asked_by.Tie as tie
 
 returns : tie.Need-returns
 returns c = rw (c .before .message .given .1) refl

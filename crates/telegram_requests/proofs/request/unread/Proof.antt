@@ -1,9 +1,9 @@
--- `requests::request::unread` meets its contract, test by test.
+-- `telegram_requests::request::unread` meets its contract, test by test.
 -- Assumes nothing.
 use mathlib.Core.Path.{refl}
 use borrow.Author.Tests.{eq-eqb, ne-eqb}
-use Rattle.requests.proofs.request.unread.Statement.{statement}
-use Rattle.requests.proofs.request.unread.Tie as tie
+use Rattle.telegram_requests.proofs.request.unread.Statement.{statement}
+use Rattle.telegram_requests.proofs.request.unread.Tie as tie
 
 returns : tie.Need-returns
 returns c = simp (eq-eqb _ _ (c .if1 .taken)) refl

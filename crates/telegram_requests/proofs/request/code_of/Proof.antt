@@ -1,9 +1,9 @@
--- `requests::request::code_of` meets its contract, arm by arm.
+-- `telegram_requests::request::code_of` meets its contract, arm by arm.
 -- Assumes nothing.
 use mathlib.Core.Path.{refl}
 use borrow.Author.Needs.{needs}
-use Rattle.requests.proofs.request.code_of.Statement.{statement}
-use Rattle.requests.proofs.request.code_of.Tie as tie
+use Rattle.telegram_requests.proofs.request.code_of.Statement.{statement}
+use Rattle.telegram_requests.proofs.request.code_of.Tie as tie
 
 returns : tie.Need-returns
 returns c = rw (c .before .request .given .1) refl

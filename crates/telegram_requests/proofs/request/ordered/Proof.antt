@@ -1,9 +1,9 @@
--- `requests::request::ordered` meets its contract.
+-- `telegram_requests::request::ordered` meets its contract.
 -- Assumes nothing.
 use mathlib.Core.Path.{refl}
 use borrow.Author.Tests.{eq-eqb, ne-eqb}
-use Rattle.requests.proofs.request.ordered.Statement.{statement}
-use Rattle.requests.proofs.request.ordered.Tie as tie
+use Rattle.telegram_requests.proofs.request.ordered.Statement.{statement}
+use Rattle.telegram_requests.proofs.request.ordered.Tie as tie
 
 returns : tie.Need-returns
 returns c = rw (eq-eqb _ _ (c .if1 .taken)) refl

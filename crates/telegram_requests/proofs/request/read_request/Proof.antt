@@ -1,12 +1,12 @@
--- `requests::request::read_request` meets its contract: what does not read, a wrong code, and what a message asks.
+-- `telegram_requests::request::read_request` meets its contract: what does not read, a wrong code, and what a message asks.
 -- Assumes nothing.
 use mathlib.Core.Path.{refl, sym, ap, _∙_}
 use borrow.Author.Tests.{eq-eqb, ne-eqb}
 use Rattle.telegram.specs.declared.message.Reading.{Reading}
-use Rattle.requests.specs.Asking.{telegramAsked}
+use Rattle.telegram_requests.specs.Asking.{telegramAsked}
 use borrow.Author.Needs.{needs}
-use Rattle.requests.proofs.request.read_request.Statement.{statement}
-use Rattle.requests.proofs.request.read_request.Tie as tie
+use Rattle.telegram_requests.proofs.request.read_request.Statement.{statement}
+use Rattle.telegram_requests.proofs.request.read_request.Tie as tie
 
 returns : tie.Need-returns
 returns c =
