@@ -167,67 +167,138 @@ fn round_trip_of_random_bytes() {
 }
 
 #[test]
+fn a_byte_order_mark_is_passed_over() {
+    assert_eq!(to_binary(b"\xef\xbb\xbf").unwrap(), b"");
+    let feed = to_binary(b"\xef\xbb\xbftick\r\n# one\r\n").unwrap();
+    assert_eq!(feed, b"\0\x02\x01\x06");
+    // Only the first one is a mark.
+    let message = to_binary("tick\n\u{feff}tick".as_bytes()).unwrap_err();
+    assert!(message.starts_with("line 2: expected plan, "), "{message}");
+}
+
+#[test]
 fn messages() {
+    let names = "plan, telegram, press, cut, mobile-on, mobile-off, tick, handover, mobile-call, \
+                 mobile-cancel or raw";
+    let no_entry = |found: &str| format!("expected {names}, found '{found}'");
+    let long = "0".repeat(12_001);
     for (text, message) in [
+        ("jump 7", &*no_entry("jump")),
+        ("12", &no_entry("12")),
+        ("8.13 tick", &no_entry("8.13")),
+        ("8.. tick", &no_entry("8..")),
+        ("\x1b[2J", &no_entry("\\u{1b}[2J")),
+        (&long, &no_entry(&format!("{}..", "0".repeat(40)))),
+        (
+            "telegram 0",
+            "expected telegram DESK TELEGRAM, found 'telegram 0'",
+        ),
+        (
+            "telegram 0 D\u{e9}",
+            "expected ASCII characters, found 'D\u{e9}'",
+        ),
+        (
+            &format!("telegram 0 {long}"),
+            "expected a telegram of at most 12000 bytes, found one of 12001",
+        ),
         (
             "press 0 7",
-            "line 1: 'press' is written: press DESK CHANNEL on, or off",
+            "expected press DESK CHANNEL on|off, found 'press 0 7'",
         ),
-        ("tick\n\npress 0 7 up", "line 3: 'up' is neither on nor off"),
-        ("cut 0 256", "line 1: '256' is not a channel, 0 to 255"),
-        ("cut -1 2", "line 1: '-1' is not a desk, 0 to 255"),
-        ("jump", "line 1: there is no entry 'jump'"),
-        ("12", "line 1: there is no entry '12'"),
-        ("8.13 tick", "line 1: there is no entry '8.13'"),
-        ("8.. tick", "line 1: there is no entry '8..'"),
+        ("press 0 7 up", "expected on or off, found 'up'"),
+        ("cut 0", "expected cut DESK CHANNEL, found 'cut 0'"),
+        ("cut 0 256", "expected a channel, 0 to 255, found '256'"),
+        ("cut -1 2", "expected a desk, 0 to 255, found '-1'"),
+        (
+            "mobile-on 7 3",
+            "expected mobile-on CHANNEL BASE NUMBER, found 'mobile-on 7 3'",
+        ),
+        (
+            "mobile-on 7 x 00990007",
+            "expected a base, 0 to 255, found 'x'",
+        ),
+        (
+            "mobile-on 7 3 0099007",
+            "expected a number of 8 characters, found '0099007'",
+        ),
+        (
+            "mobile-off",
+            "expected mobile-off CHANNEL, found 'mobile-off'",
+        ),
         (
             "tick 0",
-            "line 1: '0' is not a count of ticks, 1 to 1000000",
+            "expected a count of ticks, 1 to 1000000, found '0'",
         ),
         (
             "tick +1",
-            "line 1: '+1' is not a count of ticks, 1 to 1000000",
+            "expected a count of ticks, 1 to 1000000, found '+1'",
         ),
+        ("tick 1 2", "expected tick, or tick COUNT, found 'tick 1 2'"),
         (
-            "raw 0",
-            "line 1: a hex digit is missing: each byte is two of them",
+            "handover now",
+            "expected handover alone, found 'handover now'",
         ),
-        ("raw 0g", "line 1: 'g' is not a hex digit"),
-        (
-            "mobile-on 7 3 0099007",
-            "line 1: '0099007' is not a number of 8 characters",
-        ),
-        (
-            "plan 1:00000001 7:0",
-            "line 1: 'plan' is written: plan CODE:NUMBER .. / CHANNEL:DESK,DESK ..",
-        ),
-        (
-            "plan 1:00000001 / 7:0,8",
-            "line 1: '8' is not a desk, 0 to 7",
-        ),
-        (
-            "plan 65536:00000001 / 7:0",
-            "line 1: '65536' is not a code, 0 to 65535",
-        ),
-        ("handover now", "line 1: 'handover' is written: handover"),
         (
             "mobile-call 7 3 00990007",
-            "line 1: 'mobile-call' is written: mobile-call CHANNEL BASE NUMBER CALLED",
+            "expected mobile-call CHANNEL BASE NUMBER CALLED, found 'mobile-call 7 3 00990007'",
         ),
         (
             "mobile-call 7 3 00990007 0012001",
-            "line 1: '0012001' is not a number of 8 characters",
+            "expected a number of 8 characters, found '0012001'",
         ),
         (
             "mobile-cancel",
-            "line 1: 'mobile-cancel' is written: mobile-cancel CHANNEL",
+            "expected mobile-cancel CHANNEL, found 'mobile-cancel'",
         ),
-        ("telegram 0 D\u{e9}", "line 1: 'D\u{e9}' is not ASCII"),
+        ("raw", "expected raw HEX, found 'raw'"),
+        (
+            "raw 000",
+            "expected two hexadecimal digits for each byte, found '000'",
+        ),
+        ("raw 0g", "expected a hexadecimal digit, found 'g'"),
+        (
+            "raw 0\u{e9}",
+            "expected a hexadecimal digit, found '\u{e9}'",
+        ),
+        (
+            "plan 1:00000001 7:0",
+            "expected plan CODE:NUMBER .. / CHANNEL:DESK,DESK .., found 'plan 1:00000001 7:0'",
+        ),
+        (
+            "plan 100000001 / 7:0",
+            "expected a desk, CODE:NUMBER, found '100000001'",
+        ),
+        (
+            "plan 65536:00000001 / 7:0",
+            "expected a code, 0 to 65535, found '65536'",
+        ),
+        (
+            "plan 1:0000001 / 7:0",
+            "expected a number of 8 characters, found '0000001'",
+        ),
+        (
+            "plan 1:00000001 / 7",
+            "expected a channel, CODE:DESK,DESK .., found '7'",
+        ),
+        (
+            "plan 1:00000001 / 256:0",
+            "expected a channel, 0 to 255, found '256'",
+        ),
+        (
+            "plan 1:00000001 / 7:0,8",
+            "expected a desk, 0 to 7, found '8'",
+        ),
+        (
+            &format!("plan / {}", "7:0 ".repeat(256)),
+            "expected at most 255 channels, found 256",
+        ),
     ] {
+        let text = format!("tick\n\n{text}\ntick");
+        let message = format!("line 3: {message}");
         assert_eq!(to_binary(text.as_bytes()).unwrap_err(), message);
     }
     assert_eq!(
-        to_binary(b"tick\n\xff").unwrap_err(),
-        "line 2: this is not text"
+        to_binary(b"tick\ntick \xff").unwrap_err(),
+        "line 2: expected text in UTF-8, found the byte ff"
     );
 }
