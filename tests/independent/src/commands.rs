@@ -1,8 +1,9 @@
 //! The commands and their arguments.
 
+use crate::streams::{Setting, Trouble};
 use crate::{compare_replay, compare_telegrams, feed, frames, generate, replay, timing};
 use std::ffi::{OsStr, OsString};
-use std::io::{self, BufReader, BufWriter, Error, Read, Write};
+use std::io::{self, BufReader, BufWriter, Write};
 use std::path::PathBuf;
 use std::process::ExitCode;
 use std::str::FromStr;
@@ -27,7 +28,8 @@ pub fn run(arguments: &[OsString]) -> Done {
         ("compare-telegrams", [program, options @ ..]) => compare_telegrams(program, options),
         ("replay", []) => replay(),
         ("compare-replay", [program, options @ ..]) => compare_replay(program, options),
-        ("feed", [direction]) => feed(direction),
+        ("feed", [direction, setting @ ..]) => feed(direction, setting),
+        ("frame-lines", setting) => frame_lines(setting),
         ("generate", [seed, count, options @ ..]) => generate(seed, count, options),
         ("time", [file, rounds]) => time(file, rounds),
         _ => Ok(None),
@@ -109,27 +111,35 @@ fn clock() -> u64 {
     now.map_or(1, |now| now.as_millis() as u64 % 1_000_000_000)
 }
 
-fn feed(direction: &OsStr) -> Done {
-    let mut input = Vec::new();
-    let mut output = output();
-    let mut read = || io::stdin().lock().read_to_end(&mut input);
-    match direction.to_str() {
-        Some("to-binary") => {
-            read()?;
-            output.write_all(&feed::to_binary(&input).map_err(Error::other)?)?;
-        }
-        Some("to-text") => {
-            read()?;
-            feed::to_text(&input, &mut output)?;
-        }
-        Some("show") => {
-            read()?;
-            feed::show(&input, &mut output)?;
-        }
+fn feed(direction: &OsStr, setting: &[OsString]) -> Done {
+    let Some(setting) = Setting::new(setting) else {
+        return Ok(None);
+    };
+    Ok(Some(match direction.to_str() {
+        Some("entries") => setting.run(feed::pass_on),
+        Some("to-binary") => convert(&setting, |feed, output| output.write_all(feed)),
+        Some("to-text") => convert(&setting, |feed, output| feed::to_text(feed, output)),
+        Some("show") => convert(&setting, |feed, output| feed::show(feed, output)),
         _ => return Ok(None),
-    }
-    output.flush()?;
-    Ok(Some(ExitCode::SUCCESS))
+    }))
+}
+
+/// Reads a whole feed in either form, and writes its bytes in another way.
+fn convert(
+    setting: &Setting,
+    write: impl FnOnce(&[u8], &mut dyn Write) -> io::Result<()>,
+) -> ExitCode {
+    setting.run(|input, output| {
+        let mut feed = Vec::new();
+        input.read_to_end(&mut feed).map_err(Trouble::Unread)?;
+        let feed = feed::bytes_of(feed).map_err(Trouble::Wrong)?;
+        write(&feed, output).map_err(Trouble::Unwritten)
+    })
+}
+
+fn frame_lines(setting: &[OsString]) -> Done {
+    let setting = Setting::new(setting);
+    Ok(setting.map(|setting| setting.run(frames::frame_lines)))
 }
 
 fn generate(seed: &OsStr, count: &OsStr, options: &[OsString]) -> Done {

@@ -15,6 +15,7 @@ pub mod replay;
 mod samples;
 mod session;
 pub mod set;
+mod streams;
 mod telegram;
 mod telegram_groups;
 mod timing;

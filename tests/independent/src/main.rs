@@ -21,10 +21,14 @@ const USAGE: &str = "usage:
       each DIR (tests/feeds and samples if none is given), on feeds that break
       off, on generated ones (1000 of 500 entries, from the seeds 1023 on; the
       seed 'random' is taken from the clock) and on a long one (1000000)
-  independent feed to-binary | to-text | show
-      turns a text feed from standard input into bytes, bytes into text, or
-      bytes into text with the numbers that the replay gives the entries, which
-      to-binary takes too
+  independent feed to-binary | to-text | show | entries [--as NAME] [FILE]
+      writes a feed as bytes, as text, as text with the numbers that the replay
+      gives the entries, or as bytes while it comes, up to where the replay
+      ends. The feed may have any of these forms: it is binary if one of its
+      first three bytes is a control character other than a blank or a line
+      end, else text. NAME stands before what is said on standard error
+  independent frame-lines [--as NAME] [FILE]
+      puts its length of 2 bytes before each line
   independent generate SEED N [--shape NAME]
       writes a feed of N entries; as a load to measure if a shape is named:
       mixed1, mixed4, mixed32, ticks-rest, ticks-held, telegrams, refused, on

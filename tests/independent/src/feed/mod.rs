@@ -17,10 +17,22 @@
 //!
 //! A line may have entry numbers in front, as `show` puts them: `8..13  tick 6`.
 
+mod form;
 mod parse;
 mod print;
+mod stream;
 #[cfg(test)]
 mod tests;
 
 pub use parse::to_binary;
 pub use print::{show, to_text};
+pub use stream::pass_on;
+
+/// The bytes of a feed in either form.
+pub fn bytes_of(feed: Vec<u8>) -> Result<Vec<u8>, String> {
+    if form::is_binary(&feed) {
+        Ok(feed)
+    } else {
+        to_binary(&feed)
+    }
+}

@@ -5,7 +5,7 @@ use crate::set::entry::{self, Entry};
 use std::io::{self, Write};
 
 /// Writes a feed as text from which the same bytes come back.
-pub fn to_text(feed: &[u8], out: &mut impl Write) -> io::Result<()> {
+pub fn to_text(feed: &[u8], out: &mut (impl Write + ?Sized)) -> io::Result<()> {
     for line in lines(feed) {
         writeln!(out, "{}", line.text)?;
     }
@@ -14,7 +14,7 @@ pub fn to_text(feed: &[u8], out: &mut impl Write) -> io::Result<()> {
 
 /// Writes a feed as text with the numbers that the replay gives the entries.
 /// Those that it does not reach have none.
-pub fn show(feed: &[u8], out: &mut impl Write) -> io::Result<()> {
+pub fn show(feed: &[u8], out: &mut (impl Write + ?Sized)) -> io::Result<()> {
     let mut lines = lines(feed);
     for line in lines.by_ref() {
         let comment = if line.ends {

@@ -4,6 +4,8 @@ use super::*;
 use crate::generate;
 use crate::random::Random;
 use crate::replay::entries;
+use crate::streams::Trouble;
+use std::io::{self, Error, Read, Write};
 
 fn text_of(feed: &[u8]) -> String {
     let mut text = Vec::new();
@@ -301,4 +303,166 @@ fn messages() {
         to_binary(b"tick\ntick \xff").unwrap_err(),
         "line 2: expected text in UTF-8, found the byte ff"
     );
+}
+
+#[test]
+fn the_form_is_told_by_the_first_bytes() {
+    for text in [
+        &b""[..],
+        b"\n",
+        b"\r\n",
+        b"\n\n\n",
+        b" \t\x0c",
+        b"#",
+        b"#\xc3\xa9 is a letter",
+        b"\xef\xbb\xbf",
+        b"\xef\xbb\xbf\0",
+        b"tick",
+        b"1  tick",
+        b"/ a slip",
+        b"\xff\xfet\0",
+    ] {
+        assert!(!form::is_binary(text), "{text:?}");
+    }
+    for bytes in [
+        &b"\0"[..],
+        b"\0\x02\x01\x06",
+        b"\x09\x20\x01",
+        b"\x0a\x0d\x01",
+        b"\x23\x23\x01",
+        b"\x2e\xe0\x01",
+        b"\xff\xff\x01",
+        b"\x0a\0",
+        b"\n\n\x7f",
+    ] {
+        assert!(form::is_binary(bytes), "{bytes:?}");
+    }
+    // A longer feed has the form of its beginning.
+    for size in 0..6 {
+        let told = form::is_told(&b"tick 2"[..size]);
+        assert_eq!(told, size >= 3);
+        let told = form::is_told(&b"\n\0\x01\x06"[..size.min(4)]);
+        assert_eq!(told, size >= 2);
+    }
+}
+
+/// No length that an entry can have makes a feed look like a text.
+#[test]
+fn every_length_is_binary() {
+    for length in 2..=65_535_u16 {
+        let [high, low] = length.to_be_bytes();
+        assert!(form::is_binary(&[high, low, 1]), "{length}");
+        assert!(form::is_binary(&[high, low, 1, 1, 0, b'D', b'V']));
+    }
+}
+
+#[test]
+fn generated_feeds_are_binary_and_their_texts_are_not() {
+    for seed in 0..200 {
+        let feed = generate::feed(seed, 20);
+        assert_eq!(bytes_of(feed.clone()).unwrap(), feed, "{seed}");
+        for text in [text_of(&feed), shown(&feed)] {
+            assert_eq!(bytes_of(text.into_bytes()).unwrap(), feed, "{seed}");
+        }
+    }
+}
+
+/// Gives its parts one by one, then an end or an error.
+struct Parts {
+    parts: Vec<Vec<u8>>,
+    error: Option<Error>,
+}
+
+impl Read for Parts {
+    fn read(&mut self, place: &mut [u8]) -> io::Result<usize> {
+        if self.parts.is_empty() {
+            return self.error.take().map_or(Ok(0), Err);
+        }
+        let part = self.parts.remove(0);
+        place[..part.len()].copy_from_slice(&part);
+        Ok(part.len())
+    }
+}
+
+/// Notes where it was flushed.
+#[derive(Default)]
+struct Flushed {
+    bytes: Vec<u8>,
+    places: Vec<usize>,
+}
+
+impl Write for Flushed {
+    fn write(&mut self, bytes: &[u8]) -> io::Result<usize> {
+        self.bytes.extend_from_slice(bytes);
+        Ok(bytes.len())
+    }
+
+    fn flush(&mut self) -> io::Result<()> {
+        self.places.push(self.bytes.len());
+        Ok(())
+    }
+}
+
+fn passed(parts: &[&[u8]], error: Option<Error>) -> (Flushed, Result<(), Trouble>) {
+    let parts = parts.iter().map(|part| part.to_vec()).collect();
+    let mut output = Flushed::default();
+    let done = pass_on(&mut Parts { parts, error }, &mut output);
+    (output, done)
+}
+
+#[test]
+fn binary_entries_are_passed_on_once_they_are_whole() {
+    let parts: [&[u8]; 6] = [
+        b"\0",
+        b"\x02\x01\x06\0",
+        b"\x02\x01",
+        b"\x06",
+        b"\0\x02\x01\x06",
+        b"\0",
+    ];
+    let (output, done) = passed(&parts, None);
+    assert!(done.is_ok());
+    assert_eq!(output.bytes, parts.concat());
+    assert_eq!(output.places, [0, 4, 4, 8, 12, 12]);
+}
+
+#[test]
+fn nothing_is_passed_on_behind_the_end_of_the_replay() {
+    for (feed, size) in [
+        (&b"\0\x02\x01\x06\0\0\0\x02\x01\x06"[..], 6),
+        (b"\0\x01\x01\0\x02\x01\x06", 3),
+        (b"\x2e\xe1\x01\x06", 2),
+        (b"\0\x02\x01\x06\xff\xff", 6),
+    ] {
+        // It does not wait for more.
+        let (output, done) = passed(&[feed], Some(Error::other("not read")));
+        assert!(done.is_ok(), "{feed:?}");
+        assert_eq!(output.bytes, &feed[..size]);
+    }
+}
+
+#[test]
+fn texts_are_passed_on_at_their_end() {
+    let (output, done) = passed(&[b"ti", b"ck 2\nti", b"ck"], None);
+    assert!(done.is_ok());
+    assert_eq!(output.bytes, b"\0\x02\x01\x06".repeat(3));
+    let (output, done) = passed(&[b"tick\n", b"tock\n"], None);
+    assert!(matches!(done, Err(Trouble::Wrong(why)) if why.starts_with("line 2: expected ")));
+    assert_eq!(output.bytes, b"");
+}
+
+/// Half an entry or half a text may go on in any way.
+#[test]
+fn what_is_not_whole_at_an_error_is_not_passed_on() {
+    for (parts, size) in [
+        (&[&b"\0\x02\x01\x06\0\x02\x01"[..]][..], 4),
+        (&[b"\0\x02\x01\x06", b"\0"], 4),
+        (&[b"\0"], 0),
+        (&[b"tick\n"], 0),
+        (&[], 0),
+    ] {
+        let (output, done) = passed(parts, Some(Error::from_raw_os_error(5)));
+        assert!(matches!(done, Err(Trouble::Unread(error)) if error.raw_os_error() == Some(5)));
+        assert_eq!(output.bytes.len(), size);
+    }
 }
