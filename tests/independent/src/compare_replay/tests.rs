@@ -24,7 +24,7 @@ fn programs_that_print_nothing_right_fail() {
         for group in [
             "feeds in no-such-directory: 0 of 1, FAILED",
             "entries of odd lengths: 0 of 28, FAILED",
-            "output before more input: 0 of 3, FAILED",
+            "output before more input: 0 of 6, FAILED",
             "generated feeds: 0 of 3, FAILED",
         ] {
             assert!(report.contains(group), "{program}: {report}");
