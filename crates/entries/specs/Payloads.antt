@@ -5,7 +5,7 @@ use mathlib.Core.Bool.{cond}
 use lib.Dec.{eqb}
 use lib.ListN.{length}
 use Rattle.numerals.specs.declared.digits.Digits.the-variants.{Malformed}
-use Rattle.set_state.specs.Bytes.{byte}
+use Rattle.frames.specs.Bytes.{byte}
 use Rattle.set_rules.specs.Entries.{bad, asks, payload, payloadOk}
 use Rattle.set_state.specs.declared.state.Entry.{Entry}
 

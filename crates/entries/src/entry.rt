@@ -175,7 +175,7 @@ fn is_measured(entry: &[u8]) -> bool
     if entry.len() < 4 {
         return false;
     }
-    let length = set_state::word(entry);
+    let length = frames::word(entry);
     (length + 2 == entry.len()) & (length <= 12000)
 }
 

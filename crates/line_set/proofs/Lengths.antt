@@ -11,7 +11,7 @@ use borrow.Author.Tests.{leb-true, eqb-true}
 use Rattle.laws.proofs.Tests.{both, by-branch}
 use Rattle.laws.proofs.Each.{_▹_}
 use Rattle.laws.proofs.Table.{pick-each}
-use Rattle.set_state.specs.Bytes.{byte}
+use Rattle.frames.specs.Bytes.{byte}
 use Rattle.set_rules.specs.Entries.{measured, payload, sizes, sizeOk, payloadOk, readEntry}
 use Rattle.set_state.specs.declared.state.Entry.{Entry}
 

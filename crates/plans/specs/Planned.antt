@@ -8,7 +8,7 @@ use Rattle.numerals.specs.Digits.{valueOf}
 use Rattle.fields.specs.Fields.{between}
 use Rattle.telegram.specs.Telegram.{num}
 use Rattle.set_state.specs.State.{newLink, noDesk, noChannel, newSet}
-use Rattle.set_state.specs.Bytes.{word}
+use Rattle.frames.specs.Bytes.{word}
 use Rattle.set_rules.specs.Plan.{deskOk, desksOk, desksIn, channelsOk, channelsIn, deskCount, channelCount, planOk, filled, setOf}
 use Rattle.set_state.specs.declared.state.Desk.{Desk}
 use Rattle.set_state.specs.declared.state.Size.{Size}

@@ -37,7 +37,7 @@ fn read_desk(s: &[u8]) -> DeskRead
     requires { ⌜ 10 ≤ length (now s) ⌝ }
     ensures { λ r. ⌜ r ≡ deskIn (now (s .entry)) ⌝ }
 {
-    let code = set_state::word(s);
+    let code = frames::word(s);
     if 1023 < code {
         return DeskRead::Bad;
     }

@@ -22,10 +22,10 @@ enum Counts {
 fn read_counts(plan: &[u8]) -> Counts
     ensures { λ r. ⌜ r ≡ countsIn (now (plan .entry)) ⌝ }
 {
-    let desks = set_state::byte(plan, 0);
-    let past = 10 * set_state::wide(desks);
-    let channels = set_state::byte(plan, 1 + past);
-    let size = 2 + past + 2 * set_state::wide(channels);
+    let desks = frames::byte(plan, 0);
+    let past = 10 * frames::wide(desks);
+    let channels = frames::byte(plan, 1 + past);
+    let size = 2 + past + 2 * frames::wide(channels);
     if ((1 <= desks) & (desks <= 4)) & ((1 <= channels) & (channels <= 32)) & (plan.len() == size) {
         Counts::Are(Size { desks, channels })
     } else {
@@ -49,7 +49,7 @@ pub fn read_plan(plan: &[u8]) -> Plan
     let Counts::Are(size) = counts else {
         return no_plan();
     };
-    let n = set_state::wide(size.desks);
+    let n = frames::wide(size.desks);
     let d = desks::read_desks(&plan[1..], n);
     if !d.ok {
         return no_plan();
@@ -59,7 +59,7 @@ pub fn read_plan(plan: &[u8]) -> Plan
         return no_plan();
     }
     let at = 2 + 10 * n;
-    let c = channels::read_channels(&plan[at..], set_state::wide(size.channels), size.desks);
+    let c = channels::read_channels(&plan[at..], frames::wide(size.channels), size.desks);
     if !c.ok {
         return no_plan();
     }

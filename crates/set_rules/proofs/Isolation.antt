@@ -37,7 +37,7 @@ use Rattle.line_rules.specs.Turns.{toldOfCall}
 use Rattle.line_rules.specs.Veil.{veil, hideCall, hide}
 use Rattle.line_rules.proofs.Kept.{only-other, number-hidden, ring-hidden}
 use Rattle.set_state.specs.State.{newSet, noDesk, isRunning, runningFrom, listenersOf, deskPlace, ownOf, placeIn, channelAt, withChannels}
-use Rattle.set_state.specs.Bytes.{byte}
+use Rattle.frames.specs.Bytes.{byte}
 use Rattle.set_state.specs.declared.state.Desk.{Desk}
 use Rattle.set_state.specs.declared.state.LineSet.{LineSet}
 use Rattle.set_state.specs.declared.state.Entry.{Entry}
@@ -47,7 +47,8 @@ use Rattle.set_rules.specs.Entries.{measured, readEntry, sizeOk, asks, b
 use Rattle.set_rules.specs.Refusals.{lookupIn, isKind, askedIn, named, namedBy, isCaller, numberIn, calledPlace, firstOf, refusalOf, table}
 use Rattle.set_rules.specs.Records.{spaceOf}
 use Rattle.set_rules.specs.SetRules.{Effect, onChannel, isCalled, callerOf, answersRing, answersIn, onRequest, acceptedBy, accepted}
-use Rattle.set_rules.specs.Feeds.{Outcome, Item, outcomeOf, stepOf, stepBy, cutUp, ofDesk, received, Seen, seenOf, views}
+use Rattle.frames.specs.Frames.{framesTo}
+use Rattle.set_rules.specs.Feeds.{Outcome, Item, outcomeOf, stepOf, stepBy, ofDesk, received, Seen, seenOf, views}
 use Rattle.set_rules.specs.Promises.{Renumbered, OtherHolds, NotCalled, OtherSource, MayDiffer, same, talks, calls-other, other-answers, requestIn, matchesIn, fromCalled, Alike, Related, ended, more, Isolated}
 use Rattle.set_rules.proofs.Answers.{written}
 use Rattle.set_rules.proofs.Hidden.{hides-twice, hideSet, channelAt-hide, refusal-hide, Shown, shown, place-shown, accepted-hide}
@@ -130,7 +131,7 @@ module _ (B : ℕ) where
       go false k = rw k
 
   view-is : (s : LineSet) (e : List ℕ) (room : ℕ) → view s e room ≡ viewOf (matchesIn s e) s e (readEntry e) room
-  unfolding outcomeOf stepOf cutUp ofDesk
+  unfolding outcomeOf stepOf framesTo ofDesk
   view-is s e room =
       go (eqb (refusalOf s e (readEntry e)) 0) refl (leb (spaceOf (accepted s e (readEntry e) .sent)) room) refl
       ∙ ap (λ (f : Effect). viewBy (refusalOf s e (readEntry e)) (shown B f) (hideSet B s) room) (accepted-is s e)

@@ -29,7 +29,7 @@ use Rattle.channel.specs.declared.state.Event.{Event}
 use Rattle.channel.specs.declared.state.Event.the-variants.{Cut, PressOn, PressOff, MobileOn, MobileOff, Ring, Cancel, Tick, EndTalk, EndCall}
 use Rattle.channel.specs.declared.state.Send.{Send}
 use Rattle.set_state.specs.State.{newSet, noDesk, noChannel, ownOf, listenersOf, channelsOf, placeIn, channelAt, timeTold, answered, withLink}
-use Rattle.set_state.specs.Bytes.{byte, word}
+use Rattle.frames.specs.Bytes.{byte, word}
 use Rattle.set_rules.specs.Entries.{readEntry, measured, bad, payload, payloadOk, sizeOk, telegramIn, planIn}
 use Rattle.set_rules.specs.Plan.{deskOk, desksOk, desksIn, channelsOk, channelsIn, deskCount, desksPart, channelCount, channelsPart, distinct, planOk, setOf}
 use Rattle.set_rules.specs.Refusals.{askedIn, numberIn, calledPlace, refusalOf}

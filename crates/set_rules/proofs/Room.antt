@@ -35,7 +35,7 @@ use Rattle.line_rules.specs.Invariant.{ChannelOk, Rung}
 use Rattle.line_rules.specs.Among.{AllListen, CallTold, ArrivalTold, Among}
 use Rattle.line_rules.proofs.Kept.{only-other}
 use Rattle.set_state.specs.State.{newSet, noDesk, noChannel, isRunning, listenersOf, channelsOf, placeIn, channelAt}
-use Rattle.set_state.specs.Bytes.{byte}
+use Rattle.frames.specs.Bytes.{byte}
 use Rattle.set_state.proofs.Kept.{listeners-exactly}
 use Rattle.set_state.specs.declared.state.Desk.{Desk}
 use Rattle.set_state.specs.declared.state.LineSet.{LineSet}

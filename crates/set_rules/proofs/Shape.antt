@@ -23,7 +23,7 @@ use Rattle.channel.specs.declared.state.Event.the-variants.{Cut, MobileOff, Can
 use Rattle.channel.proofs.Kept.{none-above}
 use Rattle.line_rules.proofs.Kept.{keeps-place}
 use Rattle.set_state.specs.State.{newSet, noDesk, noChannel, listenersOf, channelsOf, placeIn, hasChannel, channelAt, timeTold, answered, withChannels, withLink}
-use Rattle.set_state.specs.Bytes.{byte}
+use Rattle.frames.specs.Bytes.{byte}
 use Rattle.set_state.specs.declared.state.Link.{Link}
 use Rattle.set_state.specs.declared.state.LineSet.{LineSet}
 use Rattle.set_state.specs.declared.state.Entry.{Entry}

@@ -27,7 +27,7 @@ use Rattle.line_rules.specs.Invariant.{ChannelOk, Fits}
 use Rattle.line_rules.specs.Among.{Around, Listens, AllListen, Among, FitsAmong, SendTold, StepAmong}
 use Rattle.line_rules.proofs.Kept.{free-is-among, stays-among}
 use Rattle.set_state.specs.State.{newSet, noDesk, noChannel, ownOf, channelsOf, placeIn, hasChannel, channelAt, listenersOf, timeTold, answered, withLink}
-use Rattle.set_state.specs.Bytes.{byte}
+use Rattle.frames.specs.Bytes.{byte}
 use Rattle.set_state.proofs.Kept.{listeners-exactly}
 use Rattle.set_state.specs.declared.state.Link.{Link}
 use Rattle.set_state.specs.declared.state.Desk.{Desk}
@@ -41,7 +41,8 @@ use Rattle.set_rules.specs.Plan.{deskCount, channelCount, channelsPart, 
 use Rattle.set_rules.specs.Refusals.{askedIn, phaseOf, named, mayUse, lookupIn, channelIn, numberIn, calledPlace, refusalOf}
 use Rattle.set_rules.specs.Records.{Delivery, delivered}
 use Rattle.set_rules.specs.SetRules.{Effect, movedIn, onChannel, sendsOf, ticked, tickSends, endSends, onTick, onHandover, onPlan, answersIn, onRequest, ways, acceptedBy, accepted}
-use Rattle.set_rules.specs.Feeds.{Item, stepBy, after, cutUp, writtenIn}
+use Rattle.frames.specs.Frames.{framesTo}
+use Rattle.set_rules.specs.Feeds.{Item, stepBy, after, writtenIn}
 use Rattle.set_rules.specs.Letters.{letterFor, lettersTo, lettersOf, lettersIn}
 use Rattle.set_rules.specs.Invariant.{SetOk, Shaped, aroundOf, AllAmong}
 use Rattle.set_rules.specs.Promises.{Right, BringsNumber, Brings, AlwaysAmong, servedBy, ToldRight}
@@ -286,7 +287,7 @@ unfolding after
 always-among M f b = feed-among M [] f b (fillers (aroundOf newSet M) 32)
 
 pub told-right : ToldRight
-unfolding cutUp
+unfolding framesTo
 told-right M f i bs b = go (eqb (stepBy (stateOf f) i .refusal) 0) refl
   where
     go : (t : Bool) → eqb (stepBy (stateOf f) i .refusal) 0 ≡ t

@@ -21,7 +21,8 @@ use Rattle.set_rules.specs.Plan.{desksOk, desksIn, hasNumber, distinct, 
 use Rattle.set_rules.specs.Refusals.{numberIn, firstOf, refusalOf}
 use Rattle.set_rules.specs.Records.{delivered, toEach, recordsOf, spaceOf}
 use Rattle.set_rules.specs.SetRules.{onChannel, sendsOf, onTick, acceptedBy, accepted}
-use Rattle.set_rules.specs.Feeds.{Item, outcomeOf, stepOf, stepBy, run, after, cutUp, ofDesk, views, Seen}
+use Rattle.frames.specs.Frames.{framesTo}
+use Rattle.set_rules.specs.Feeds.{Item, outcomeOf, stepOf, stepBy, run, after, ofDesk, views, Seen}
 use Rattle.set_rules.specs.Spelling.{spelled, entryOf, lent, bothRunning, captureEntry, callEntry, ringAnswerEntry}
 use Rattle.set_rules.specs.Promises.{Renumbered, OtherSource, MayDiffer, same, talks, calls-other, other-answers, Alike, Related, ended, more}
 use Rattle.set_rules.specs.Witness.{Speaks, SpeaksOfRings, AgreementNeeded, TicksMet}
@@ -55,7 +56,7 @@ talk-alike = record { kind-is = refl; bytes = record { long = refl; front = refl
 
 -- In what the seventh entry sends, the number of the 550464 ends behind a contact of 8 bytes and 5, 16 and 14 more.
 pub witness : Speaks
-unfolding lastIn learnt spelled onesIn digitsOf allDigits valueFrom bodyOk valuesIn bytesOf headerOk readTelegram telegramOf isIn capture mobileOn happens placeOf runningFrom readEntry desksOk desksIn hasNumber distinct channelsOk channelsIn planOk setOf firstOf refusalOf delivered toEach recordsOf spaceOf onChannel pick acceptedBy accepted outcomeOf stepOf after cutUp ofDesk views
+unfolding lastIn learnt spelled onesIn digitsOf allDigits valueFrom bodyOk valuesIn bytesOf headerOk readTelegram telegramOf isIn capture mobileOn happens placeOf runningFrom readEntry desksOk desksIn hasNumber distinct channelsOk channelsIn planOk setOf firstOf refusalOf delivered toEach recordsOf spaceOf onChannel pick acceptedBy accepted outcomeOf stepOf after framesTo ofDesk views
 witness = record {
   related =
       same-first newSet (map lent (bothRunning ++ (captureEntry 7 ∷ [])))
@@ -81,7 +82,7 @@ call-may = calls-other call-alike (λ i p. let q : _≡_ {A = ℕ} 120001 130001
 
 -- In what the sixth entry sends, the number of the 550468 ends behind a contact of 8 bytes and 5, 16 and 12 more.
 pub rings-witness : SpeaksOfRings
-unfolding lastIn learnt spelled onesIn digitsOf allDigits valueFrom bodyOk valuesIn bytesOf headerOk readTelegram telegramOf isIn ring answered ringAnswer happens placeOf runningFrom deskPlace readEntry desksOk desksIn hasNumber distinct channelsOk channelsIn planOk setOf firstOf refusalOf delivered toEach recordsOf spaceOf onChannel pick acceptedBy accepted outcomeOf stepOf after cutUp ofDesk views
+unfolding lastIn learnt spelled onesIn digitsOf allDigits valueFrom bodyOk valuesIn bytesOf headerOk readTelegram telegramOf isIn ring answered ringAnswer happens placeOf runningFrom deskPlace readEntry desksOk desksIn hasNumber distinct channelsOk channelsIn planOk setOf firstOf refusalOf delivered toEach recordsOf spaceOf onChannel pick acceptedBy accepted outcomeOf stepOf after framesTo ofDesk views
 rings-witness = record {
   related =
       same-first newSet (map lent bothRunning)
@@ -95,7 +96,7 @@ rings-witness = record {
 
 -- With the same answer the second feed's is a wrong one: desk 1 receives the 550651 in the first alone.
 pub agreement-needed : AgreementNeeded
-unfolding learnt spelled onesIn digitsOf allDigits valueFrom bodyOk valuesIn bytesOf headerOk readTelegram telegramOf isIn ring answered ringAnswer happens placeOf runningFrom deskPlace readEntry desksOk desksIn hasNumber distinct channelsOk channelsIn planOk setOf firstOf refusalOf delivered toEach recordsOf spaceOf onChannel pick acceptedBy accepted outcomeOf stepOf cutUp ofDesk views
+unfolding learnt spelled onesIn digitsOf allDigits valueFrom bodyOk valuesIn bytesOf headerOk readTelegram telegramOf isIn ring answered ringAnswer happens placeOf runningFrom deskPlace readEntry desksOk desksIn hasNumber distinct channelsOk channelsIn planOk setOf firstOf refusalOf delivered toEach recordsOf spaceOf onChannel pick acceptedBy accepted outcomeOf stepOf framesTo ofDesk views
 agreement-needed = record {
   may = call-may;
   told = λ p. let q : _≡_ {A = ℕ} 1 0 = ap (learnt 6 2) p in omega arith;

@@ -8,7 +8,7 @@ use Rattle.numerals.specs.Digits.{digitsIn}
 use Rattle.numerals.specs.declared.digits.Digits.{Digits}
 use Rattle.numerals.specs.declared.digits.Digits.the-variants.{Malformed}
 use Rattle.laws.specs.Table.{pick}
-use Rattle.set_state.specs.Bytes.{byte, word}
+use Rattle.frames.specs.Bytes.{byte, word}
 use Rattle.set_state.specs.declared.state.Entry.{Entry}
 
 -- 1: "fewer than 4 bytes, length wrong, or above 12,000"; the length "counts all bytes after it"

@@ -1,12 +1,12 @@
 -- One entry, and feeds: "a list of entries of any bytes, refused ones included, each with a lent buffer".
-use Prim.Native.Nat.{ℕ, zero, suc, _+_}
+use Prim.Native.Nat.{ℕ}
 use mathlib.Core.List.{List, [], _∷_, _++_}
 use mathlib.Core.Bool.{cond}
 use mathlib.Core.Path.{_≡_}
 use lib.Dec.{eqb, leb}
 use Rattle.telegram.specs.Telegram.{over}
-use lib.ListN.{length, take, drop, getD}
-use Rattle.set_state.specs.Bytes.{word}
+use lib.ListN.{length, take, getD}
+use Rattle.frames.specs.Frames.{framesIn}
 use Rattle.set_rules.specs.Entries.{readEntry}
 use Rattle.set_rules.specs.Refusals.{refusalOf}
 use Rattle.set_rules.specs.Records.{recordsOf, spaceOf}
@@ -80,14 +80,9 @@ after s (i ∷ is) = after (stepBy s i .after) is
 abbrev pub writtenIn : Item → Outcome → List ℕ
 writtenIn i o = take (o .count) (over (o .bytes) (i .buffer))
 
--- the records among bytes, each behind its length: the first k at most
-unfoldable pub cutUp : ℕ → List ℕ → List (List ℕ)
-cutUp zero bs = []
-cutUp (suc k) [] = []
-cutUp (suc k) (b ∷ bs) = take (word (b ∷ bs) 0 + 2) (b ∷ bs) ∷ cutUp k (drop (word (b ∷ bs) 0 + 2) (b ∷ bs))
-
+-- the records among bytes, each behind its length
 abbrev pub recordsIn : List ℕ → List (List ℕ)
-recordsIn bs = cutUp (length bs) bs
+recordsIn = framesIn
 
 -- "it receives the records with that desk byte among the bytes written"
 unfoldable pub ofDesk : ℕ → List (List ℕ) → List ℕ

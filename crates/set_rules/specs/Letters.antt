@@ -12,7 +12,7 @@ use Rattle.telegram.specs.declared.message.Reading.the-variants.{Telegram, Refu
 use Rattle.channel.specs.State.{isIn}
 use Rattle.line_rules.specs.Notices.{Content, telegram, contact}
 use Rattle.set_state.specs.State.{noDesk}
-use Rattle.set_state.specs.Bytes.{byte}
+use Rattle.frames.specs.Bytes.{byte}
 use Rattle.set_state.specs.declared.state.Desk.{Desk}
 use Rattle.set_rules.specs.Records.{Delivery}
 use Rattle.set_rules.specs.Feeds.{recordsIn}

@@ -24,7 +24,7 @@ use Rattle.channel.specs.declared.state.Event.the-variants.{Release}
 use Rattle.channel.specs.declared.state.Party.{Party}
 use Rattle.channel.specs.declared.state.Party.the-variants.{Nobody, By}
 use Rattle.set_state.specs.State.{newSet, noDesk, ownOf, channelsOf, channelAt, listenersOf}
-use Rattle.set_state.specs.Bytes.{byte}
+use Rattle.frames.specs.Bytes.{byte}
 use Rattle.set_rules.specs.Entries.{mobileIn, calledIn, readEntry, telegramIn}
 use Rattle.set_rules.specs.Refusals.{isKind, isCaller, askedIn, named, numberIn, calledPlace}
 use Rattle.set_rules.specs.SetRules.{Effect, isCalled, answersIn, accepted}

@@ -1,11 +1,7 @@
-// The state of the line set and what entries ask of it, the types that its rules speak of; and numbers in bytes.
-mod bytes;
+// The state of the line set and what entries ask of it: the types that its rules speak of.
 mod desks;
 mod state;
 
-pub use bytes::byte;
-pub use bytes::wide;
-pub use bytes::word;
 pub use desks::desk_at;
 pub use desks::desk_place;
 pub use state::Answer;

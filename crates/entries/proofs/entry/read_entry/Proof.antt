@@ -9,7 +9,7 @@ use lib.Dec.{eqb, leb}
 use lib.ListN.{length}
 use borrow.Author.Tests.{not-true, not-false, leb-true, eq-eqb, ne-eqb}
 use Rattle.laws.proofs.Tests.{both}
-use Rattle.set_state.specs.Bytes.{word}
+use Rattle.frames.specs.Bytes.{word}
 use Rattle.set_rules.specs.Entries.{measured, readEntry}
 use Rattle.entries.specs.Payloads.{payloadIn}
 use borrow.Author.Needs.{needs}

@@ -12,7 +12,7 @@ use borrow.Author.Tests.{le-leb, lt-leb, eq-eqb, ne-eqb}
 use Rattle.numerals.specs.Digits.{allDigits, valueOf}
 use Rattle.numerals.proofs.Kept.{value-found, malformed-found}
 use Rattle.telegram.specs.Telegram.{num}
-use Rattle.set_state.specs.Bytes.{word}
+use Rattle.frames.specs.Bytes.{word}
 use borrow.Author.Needs.{needs}
 use Rattle.plans.proofs.desks.read_desk.Statement.{statement}
 use Rattle.plans.proofs.desks.read_desk.Tie as tie

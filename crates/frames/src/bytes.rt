@@ -1,6 +1,6 @@
 // Numbers that stand in bytes.
 ghost use mathlib.Core.Path.{_≡_};
-ghost use Rattle.set_state.specs.Bytes.{byte, word};
+ghost use Rattle.frames.specs.Bytes.{byte, word};
 
 pub fn wide(b: u8) -> usize
     ensures { λ r. ⌜ r ≡ b ⌝ }

@@ -1,10 +1,10 @@
--- `set_state::bytes::word` meets its contract: a byte is below 256, so the sum fits.
+-- `frames::bytes::word` meets its contract: a byte is below 256, so the sum fits.
 -- Assumes nothing.
 use mathlib.Core.Path.{refl}
 use native.Mathlib.Omega.{arith}
 use borrow.Author.Needs.{needs}
-use Rattle.set_state.proofs.bytes.word.Statement.{statement}
-use Rattle.set_state.proofs.bytes.word.Tie as tie
+use Rattle.frames.proofs.bytes.word.Statement.{statement}
+use Rattle.frames.proofs.bytes.word.Tie as tie
 
 mul-result : tie.Need-mul-result
 mul-result c = omega (arith, c .before .before .before .shared-slice-known .given 0, c .before .before .byte .ensures, c .wide .ensures)

@@ -1,10 +1,10 @@
--- `set_state::bytes::byte` meets its contract: past the end the definition's default is read.
+-- `frames::bytes::byte` meets its contract: past the end the definition's default is read.
 -- Assumes nothing.
 use mathlib.Core.Path.{sym}
 use lib.ListN.{List·getD-eq-default}
 use borrow.Author.Needs.{needs}
-use Rattle.set_state.proofs.bytes.byte.Statement.{statement}
-use Rattle.set_state.proofs.bytes.byte.Tie as tie
+use Rattle.frames.proofs.bytes.byte.Statement.{statement}
+use Rattle.frames.proofs.bytes.byte.Tie as tie
 
 returns : tie.Need-returns
 returns c = search needs

@@ -1,0 +1,2 @@
+mod FrameLaws
+pub mod Kept
