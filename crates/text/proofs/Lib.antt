@@ -1,0 +1,4 @@
+mod DecimalLaws
+mod PutLaws
+mod SignedLaws
+pub mod Kept
