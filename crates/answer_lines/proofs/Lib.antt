@@ -1,0 +1,5 @@
+mod LineLaws
+mod Turns
+mod Room
+mod Shown
+pub mod Kept
