@@ -1,0 +1,4 @@
+mod Moving
+mod Nexts
+mod Hands
+pub mod Kept
