@@ -1,0 +1,4 @@
+mod Cuts
+mod TurnLaws
+mod Listed
+pub mod Kept
