@@ -1,1 +1,5 @@
-mod Count
+mod LineLaws
+mod Places
+mod TurnLaws
+mod Samples
+pub mod Kept
