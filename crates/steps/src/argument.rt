@@ -1,9 +1,10 @@
 // The number of rounds, from the argument.
-ghost use Prim.Native.Nat.{_<_};
+ghost use mathlib.Core.Path.{_≡_};
+ghost use Rattle.steps.specs.Rounds.{numberFrom, roundsIn};
 
 // The number that the digits at the front of a text make, as far as it stays below 1,000,000,000.
 fn number(text: &[u8]) -> u64
-    ensures { λ r. ⌜ r < 1000000000 ⌝ }
+    ensures { λ r. ⌜ r ≡ numberFrom 0 (now (text .entry)) ⌝ }
 {
     let mut n = 0;
     let mut i = 0;
@@ -26,7 +27,7 @@ fn number(text: &[u8]) -> u64
 
 // One round where there is no argument.
 pub fn rounds(text: &[u8]) -> u64
-    ensures { λ r. ⌜ r < 1000000000 ⌝ }
+    ensures { λ r. ⌜ r ≡ roundsIn (now (text .entry)) ⌝ }
 {
     if text.len() == 0 {
         return 1;

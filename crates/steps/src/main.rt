@@ -3,91 +3,37 @@
 // of the records it wrote. A round stops at the end of the feed, or after an entry refused with 1. The benchmark takes
 // the time of some rounds from that of more, so nothing else is done on the way.
 mod argument;
-mod sizes;
+mod rounds;
 
-use set_state::LineSet;
-ghost use Prim.Native.Nat.{_≤_};
-ghost use lib.ListN.{length};
+use rounds::Round;
+use streams::Place;
 
-// What a round did.
-struct Round {
-    entries: usize,
-    accepted: usize,
-    bytes: u64,
-}
-
-// Steps a new set through the feed. The set stays in one local and is stepped in this one place: any other would add a
-// copy of it to every entry.
-fn step_all(feed: &[u8], buffer: &mut [u8]) -> Round
-    ensures { λ r. ⌜ (r .accepted ≤ r .entries) × (r .entries ≤ length (now (feed .entry))) ⌝ }
-{
-    let mut set = LineSet::new();
-    let mut entries = 0;
-    let mut accepted = 0;
-    let mut bytes = 0;
-    let mut read = 0;
-    while read < feed.len() {
-        let to = read + sizes::entry_size(&feed[read..]);
-        let answer = line_set::step(set, &feed[read..to], buffer);
-        let after = answer.set;
-        set = after;
-        read = to;
-        entries += 1;
-        // no feed is long enough to wrap this
-        bytes = std::num::wrapping_add_u64(bytes, answer.count as u64);
-        if answer.refusal == 0 {
-            accepted += 1;
-        }
-        if answer.refusal == 1 {
-            break;
-        }
-    }
-    Round {
-        entries,
-        accepted,
-        bytes,
-    }
-}
-
-// The last of some rounds.
-fn last_round(feed: &[u8], rounds: u64, buffer: &mut [u8]) -> Round
-    ensures { λ r. ⌜ (r .accepted ≤ r .entries) × (r .entries ≤ length (now (feed .entry))) ⌝ }
-{
-    let mut last = Round {
-        entries: 0,
-        accepted: 0,
-        bytes: 0,
-    };
-    let mut left = rounds;
-    while left > 0 {
-        last = step_all(feed, buffer);
-        left -= 1;
-    }
-    last
-}
-
+// Writes the line of a round.
 fn print(round: Round) {
-    io::print_decimal(1, round.entries as u64);
-    io::write_all(1, b" ");
-    io::print_decimal(1, round.accepted as u64);
-    io::write_all(1, b" ");
-    io::print_decimal(1, round.bytes);
-    io::write_all(1, b"\n");
+    let mut text = [0u8; 64];
+    let waits = rounds::put_round(round, &mut text);
+    let at = Place {
+        from: 0,
+        to: 0,
+        going: true,
+        ended: false,
+        failed: false,
+        filled: 0,
+        number: 0,
+        waits,
+    };
+    streams::write_out(at, &text);
 }
 
 // Reads the whole feed before the first round. Of one that is larger than the room only that much is stepped.
-fn step_input(room: &mut [u8], rounds: u64, buffer: &mut [u8]) -> Round
-    ensures { λ r. ⌜ (r .accepted ≤ r .entries) × (r .entries ≤ length (now (room .exit))) ⌝ }
-{
-    let size = io::read_full(0, room);
-    last_round(&room[..size], rounds, buffer)
+fn step_input(room: &mut [u8], rounds: u64, buffer: &mut [u8]) -> Round {
+    let size = streams::read_all(room);
+    rounds::last_round(&room[..size], rounds, buffer)
 }
 
 // The room goes through a parameter of its own type, so that its length is known by that: to count 4,194,304 zeros takes
 // the check more memory than it has.
-fn step_large(room: &mut [u8; 4194304], rounds: u64, buffer: &mut [u8]) -> Round
-    ensures { λ r. ⌜ (r .accepted ≤ r .entries) × (r .entries ≤ 4194304) ⌝ }
-{
+fn step_large(room: &mut [u8; 4194304], rounds: u64, buffer: &mut [u8]) -> Round {
     step_input(room, rounds, buffer)
 }
 
