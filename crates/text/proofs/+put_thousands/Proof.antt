@@ -29,7 +29,7 @@ abbrev put-thousands-below : ℕ → In 1 put-thousands-kinds.ps
 put-thousands-below t =
     and 1 put-thousands-kinds.ps (falls 1 put-thousands-kinds.ps _<_ μ-put-thousands t) put-thousands.Pre
 
-put-thousands-put-small-requires : (t : ℕ) → put-thousands-lts.Need-put-small-requires (
+returns : (t : ℕ) → put-thousands-lts.Need-returns (
   put-small-reads.Asked,
   put-small-reads.Learnt,
   put-thousands-below t,
@@ -37,9 +37,9 @@ put-thousands-put-small-requires : (t : ℕ) → put-thousands-lts.Need-put-smal
   put-three-reads.Asked,
   put-three-reads.Learnt,
 ) (put-thousands-at t) put-thousands.Post
-put-thousands-put-small-requires t c κs = search needs
+returns t c = search needs
 
-put-thousands-same-length : (t : ℕ) → put-thousands-lts.Need-same-length (
+returns-2 : (t : ℕ) → put-thousands-lts.Need-returns-2 (
   put-small-reads.Asked,
   put-small-reads.Learnt,
   put-thousands-below t,
@@ -47,62 +47,7 @@ put-thousands-same-length : (t : ℕ) → put-thousands-lts.Need-same-length (
   put-three-reads.Asked,
   put-three-reads.Learnt,
 ) (put-thousands-at t) put-thousands.Post
-put-thousands-same-length t c = search needs
-
-put-thousands-returns : (t : ℕ) → put-thousands-lts.Need-returns (
-  put-small-reads.Asked,
-  put-small-reads.Learnt,
-  put-thousands-below t,
-  put-thousands.Post,
-  put-three-reads.Asked,
-  put-three-reads.Learnt,
-) (put-thousands-at t) put-thousands.Post
-put-thousands-returns t c = search needs
-
-put-thousands-put-thousands-requires : (t : ℕ) → put-thousands-lts.Need-put-thousands-requires (
-  put-small-reads.Asked,
-  put-small-reads.Learnt,
-  put-thousands-below t,
-  put-thousands.Post,
-  put-three-reads.Asked,
-  put-three-reads.Learnt,
-) (put-thousands-at t) put-thousands.Post
-put-thousands-put-thousands-requires t c κs =
-    let st = c .before .before .before in
-    (omega (arith, st .pre .0), omega (arith, st .pre .1, simp length-append at (ap length (decimal-thousand (st .args .n) (omega arith)))))
-
-put-thousands-put-three-requires : (t : ℕ) → put-thousands-lts.Need-put-three-requires (
-  put-small-reads.Asked,
-  put-small-reads.Learnt,
-  put-thousands-below t,
-  put-thousands.Post,
-  put-three-reads.Asked,
-  put-three-reads.Learnt,
-) (put-thousands-at t) put-thousands.Post
-put-thousands-put-three-requires t c κs =
-    let st = c .before .before .before .before .before .before .before in
-    let e = decimal-thousand (st .args .n) (omega arith) in
-    omega (arith, st .pre .1, c .before .before .before .put-thousands .ensures .place, length-digits 3 (st .args .n), simp length-append at (ap length e))
-
-put-thousands-same-length-2 : (t : ℕ) → put-thousands-lts.Need-same-length-2 (
-  put-small-reads.Asked,
-  put-small-reads.Learnt,
-  put-thousands-below t,
-  put-thousands.Post,
-  put-three-reads.Asked,
-  put-three-reads.Learnt,
-) (put-thousands-at t) put-thousands.Post
-put-thousands-same-length-2 t c = search needs
-
-put-thousands-returns-2 : (t : ℕ) → put-thousands-lts.Need-returns-2 (
-  put-small-reads.Asked,
-  put-small-reads.Learnt,
-  put-thousands-below t,
-  put-thousands.Post,
-  put-three-reads.Asked,
-  put-three-reads.Learnt,
-) (put-thousands-at t) put-thousands.Post
-put-thousands-returns-2 t c =
+returns-2 t c =
     let d = c .before .before .before .before .before .before in
     rw (decimal-thousand (d .before .before .before .before .args .n) (omega arith)) (also (d .put-thousands .ensures) (c .before .before .put-three .ensures))
 
@@ -117,10 +62,12 @@ pub +put-thousands-spec : {M : Type 1} → statement M
 )
     (put-thousands-at t)
     put-thousands.Post
-    (put-thousands-put-small-requires t)
-    (put-thousands-same-length t)
-    (put-thousands-returns t)
-    (put-thousands-put-thousands-requires t)
-    (put-thousands-put-three-requires t)
-    (put-thousands-same-length-2 t)
-    (put-thousands-returns-2 t)
+    (λ c κs. search needs)
+    (λ c. search needs)
+    (returns t)
+    (λ c κs. let st = c .before .before .before in (omega (arith, st .pre .0), omega (arith, st .pre .1, simp length-append at (ap length (decimal-thousand (st .args .n) (omega arith))))))
+    (λ c κs.
+    let st = c .before .before .before .before .before .before .before in
+    omega (arith, st .pre .1, c .before .before .before .put-thousands .ensures .place, length-digits 3 (st .args .n), simp length-append at (ap length (decimal-thousand (st .args .n) (omega arith)))))
+    (λ c. search needs)
+    (returns-2 t)
