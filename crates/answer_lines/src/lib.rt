@@ -1,4 +1,6 @@
 // The lines for an answer: one for the entry, and one for each record.
+#![tactic(auto)]
+
 mod lines;
 
 ghost use Rattle.std.specs.Prelude.{◌+◌, ◌≤◌, length, take};

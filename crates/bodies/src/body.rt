@@ -2,7 +2,7 @@
 use channel::Notice;
 
 // What a record says: a notice about a channel, or what a link is asked.
-#[derive(Drop)]
+#[derive(Clone, Copy)]
 pub enum Body {
     About { channel: u8, notice: Notice },
     TimeRequest,

@@ -1,5 +1,7 @@
 // What records say, before they are written: the size of each, the space that they take, and a telegram that is made once for
 // all desks that it goes to.
+#![tactic(auto)]
+
 mod body;
 mod form;
 mod measure;

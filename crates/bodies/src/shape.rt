@@ -6,7 +6,7 @@ use super::body::Body;
 use channel::Notice;
 
 // Who finds the own number in a telegram: everyone at a place, or the holder of a channel in a 550651.
-#[derive(Drop)]
+#[derive(Clone, Copy)]
 pub enum Own {
     Nobody,
     Everyone { at: usize },
@@ -14,7 +14,7 @@ pub enum Own {
 }
 
 // What a record holds: a contact, or a telegram, with the size of the whole record. A contact's is 8 bytes.
-#[derive(Drop)]
+#[derive(Clone, Copy)]
 pub enum Shape {
     Contact { kind: u8, channel: u8, on: u8 },
     Telegram { own: Own, size: usize },

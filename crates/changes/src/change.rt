@@ -10,7 +10,7 @@ use channel::{Channel, Event, Moved};
 use set_state::Desk;
 
 // The channel after an entry, the bytes written, and the refusal number. A refusal changes nothing.
-#[derive(Drop)]
+#[derive(Clone, Copy)]
 pub struct Change {
     pub channel: Channel,
     pub count: usize,

@@ -9,7 +9,7 @@ use bodies::Body;
 use set_state::{Desk, LinkRequest};
 
 // The desks after it, the bytes written, and the refusal number. A refusal changes nothing.
-#[derive(Drop)]
+#[derive(Clone, Copy)]
 pub struct LinkChange {
     pub desks: [Desk; 4],
     pub count: usize,

@@ -5,14 +5,14 @@ ghost use Rattle.channel.specs.State.{free_channel};
 use telegram::Number;
 
 // A desk by its place in the plan, or none: who holds a channel, and who presses on it.
-#[derive(Drop)]
+#[derive(Clone, Copy)]
 pub enum Party {
     Nobody,
     By(u8),
 }
 
 // The open call, if there is one. `kind` is its type, `recipients` the desks that it was told to (01: its told set).
-#[derive(Drop)]
+#[derive(Clone, Copy)]
 pub enum Call {
     Closed,
     Open {
@@ -37,7 +37,7 @@ impl Call {
 }
 
 // The mobile that talks, if there is one.
-#[derive(Drop)]
+#[derive(Clone, Copy)]
 pub enum Arrival {
     Absent,
     Present {
@@ -48,7 +48,7 @@ pub enum Arrival {
     },
 }
 
-#[derive(Drop)]
+#[derive(Clone, Copy)]
 pub struct Channel {
     pub code: u8,
     // The desks that may use it (01: its mask).
@@ -94,7 +94,7 @@ impl Channel {
 
 // What happens on a channel, with what the entry says of it. A cut is by the holder, a press off by who presses. A handover is
 // two events: what talk there is ends, then the call and the hold.
-#[derive(Drop)]
+#[derive(Clone, Copy)]
 pub enum Event {
     Capture(u8),
     Release(u8),
@@ -117,7 +117,7 @@ pub enum Event {
 
 // What a record says, whichever desk gets it: a contact or a telegram about the channel. A desk's own number is not in it: it
 // is filled in when the record to that desk is made.
-#[derive(Drop)]
+#[derive(Clone, Copy)]
 pub enum Notice {
     PressAnswer {
         on: u8,
@@ -173,7 +173,7 @@ pub enum Notice {
 }
 
 // One record to every desk of a set, lowest first. To the empty set nothing is sent.
-#[derive(Drop)]
+#[derive(Clone, Copy)]
 pub struct Send {
     pub recipients: u8,
     pub notice: Notice,
@@ -181,14 +181,14 @@ pub struct Send {
 
 // A channel after an event, and what the event sends: in the rule's order, with sends to the empty set where the rule
 // sends nothing.
-#[derive(Drop)]
+#[derive(Clone, Copy)]
 pub struct Moved {
     pub next: Channel,
     pub sends: [Send; 7],
 }
 
 // What a tick does to the timers: none falls, one of them falls to so many seconds, or one runs out.
-#[derive(Drop)]
+#[derive(Clone, Copy)]
 pub enum Falling {
     Still,
     Ring(u8),

@@ -9,7 +9,7 @@ use plain_set::PlainSet;
 use set_state::LineSet;
 
 // The answer to an entry, with the set as numbers.
-#[derive(Drop)]
+#[derive(Clone, Copy)]
 pub struct Kept {
     pub set: PlainSet,
     pub count: usize,

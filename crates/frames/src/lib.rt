@@ -1,4 +1,6 @@
 // Numbers that stand in bytes, and frames: a length in two bytes, and what it counts.
+#![tactic(auto)]
+
 mod bytes;
 mod frame;
 

@@ -1,4 +1,6 @@
 // The line set: one entry after another steps it.
+#![tactic(auto)]
+
 mod all;
 mod entry;
 mod places;

@@ -1,4 +1,6 @@
 // Numbers as ASCII digits, read: what some bytes spell.
+#![tactic(auto)]
+
 mod digits;
 
 pub use digits::{Digits, eight, four, read_digits};

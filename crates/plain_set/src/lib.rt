@@ -1,4 +1,6 @@
 // A set as numbers: which set they are, and which numbers a set is kept as.
+#![tactic(auto)]
+
 mod convert;
 mod plain;
 

@@ -4,7 +4,7 @@
 
 // A desk, if `held` is 1.
 #[repr(C)]
-#[derive(Drop)]
+#[derive(Clone, Copy)]
 pub struct PlainParty {
     pub held: u8,
     pub desk: u8,
@@ -12,7 +12,7 @@ pub struct PlainParty {
 
 // The open call, if `opened` is 1.
 #[repr(C)]
-#[derive(Drop)]
+#[derive(Clone, Copy)]
 pub struct PlainCall {
     pub source: u32,
     pub base: u16,
@@ -25,7 +25,7 @@ pub struct PlainCall {
 
 // The mobile that talks, if `present` is 1.
 #[repr(C)]
-#[derive(Drop)]
+#[derive(Clone, Copy)]
 pub struct PlainArrival {
     pub number: u32,
     pub base: u8,
@@ -37,7 +37,7 @@ pub struct PlainArrival {
 }
 
 #[repr(C)]
-#[derive(Drop)]
+#[derive(Clone, Copy)]
 pub struct PlainChannel {
     pub call: PlainCall,
     pub arrival: PlainArrival,
@@ -52,7 +52,7 @@ pub struct PlainChannel {
 }
 
 #[repr(C)]
-#[derive(Drop)]
+#[derive(Clone, Copy)]
 pub struct PlainDesk {
     pub code: u32,
     pub number: u32,
@@ -61,7 +61,7 @@ pub struct PlainDesk {
 
 // How many desks and channels the plan has.
 #[repr(C)]
-#[derive(Drop)]
+#[derive(Clone, Copy)]
 pub struct PlainSize {
     pub desks: u8,
     pub channels: u8,
@@ -69,7 +69,7 @@ pub struct PlainSize {
 
 // `layout` is "IMJ" and the number of the layout: it comes first, so that memory that was saved tells what it is.
 #[repr(C)]
-#[derive(Drop)]
+#[derive(Clone, Copy)]
 pub struct PlainSet {
     pub layout: [u8; 4],
     pub channels: [PlainChannel; 32],

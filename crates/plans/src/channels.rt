@@ -6,7 +6,7 @@ ghost use Rattle.plans.specs.Planned.{no_channels, channels_read};
 use channel::Channel;
 
 // The channels of a plan in order, with fillers behind them. If one is bad, there are fillers only.
-#[derive(Drop)]
+#[derive(Clone, Copy)]
 pub struct Channels {
     pub channels: [Channel; 32],
     pub ok: bool,

@@ -8,14 +8,14 @@ use set_state::{Desk, Link};
 use telegram::Number;
 
 // What ten bytes of a plan say of a desk.
-#[derive(Drop)]
+#[derive(Clone, Copy)]
 enum DeskRead {
     Is(Desk),
     Bad,
 }
 
 // The desks of a plan in order, with fillers behind them. If one is bad, there are fillers only.
-#[derive(Drop)]
+#[derive(Clone, Copy)]
 pub struct Desks {
     pub desks: [Desk; 4],
     pub ok: bool,

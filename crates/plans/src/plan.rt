@@ -6,14 +6,14 @@ use super::{channels, desks};
 use set_state::{LineSet, Size};
 
 // A plan that was read: the set that it makes, if it breaks no rule; else a new one.
-#[derive(Drop)]
+#[derive(Clone, Copy)]
 pub struct Plan {
     pub set: LineSet,
     pub ok: bool,
 }
 
 // How many desks and channels a plan says that it has.
-#[derive(Drop)]
+#[derive(Clone, Copy)]
 enum Counts {
     Are(Size),
     Bad,

@@ -1,6 +1,8 @@
 // Entries from standard input, one after another. For each it prints a line: E, the entry's number from 1, the refusal
 // number, and the count of bytes written. After it comes a line for each record: T, the desk and a telegram, or C, the
 // desk, the contact, the channel and on. It stops at the end of the input, or after an entry refused with 1.
+#![tactic(auto)]
+
 mod turns;
 
 use set_state::LineSet;

@@ -1,4 +1,6 @@
 // What the code of the line rules sends.
+#![tactic(auto)]
+
 mod sends;
 
 pub use sends::{

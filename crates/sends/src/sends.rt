@@ -75,7 +75,7 @@ pub fn end(reason: u8, call: Call) -> Send
 }
 
 // What is sent to a desk that presses (`on` is 1) or no longer does.
-#[derive(Drop)]
+#[derive(Clone, Copy)]
 pub struct PressSends {
     pub answer: Send,
     pub talk: Send,
@@ -98,7 +98,7 @@ pub fn press_sends(on: u8, recipients: u8, call: Call) -> PressSends
 }
 
 // What is sent when a mobile starts to talk (`on` is 1) or ends.
-#[derive(Drop)]
+#[derive(Clone, Copy)]
 pub struct MobileSends {
     pub incoming: Send,
     pub arrival: Send,
@@ -150,7 +150,7 @@ pub fn mobile_off_sends(arrival: Arrival) -> MobileSends
 }
 
 // What is sent to the desk that a mobile rang and that did not answer.
-#[derive(Drop)]
+#[derive(Clone, Copy)]
 pub struct RingSends {
     pub incoming: Send,
     pub result: Send,

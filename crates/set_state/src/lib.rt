@@ -1,4 +1,6 @@
 // The state of the line set and what entries ask of it: the types that its rules speak of.
+#![tactic(auto)]
+
 mod desks;
 mod state;
 

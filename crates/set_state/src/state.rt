@@ -7,7 +7,7 @@ use numerals::Digits;
 use telegram::{Number, RingAnswer};
 
 // A desk's command link, by its phase: 1 waits for the time, 2 for the operation answer, 3 is running.
-#[derive(Drop)]
+#[derive(Clone, Copy)]
 pub struct Link {
     pub phase: u32,
 }
@@ -34,7 +34,7 @@ impl Link {
     }
 }
 
-#[derive(Drop)]
+#[derive(Clone, Copy)]
 pub struct Desk {
     pub code: u32,
     pub number: Number,
@@ -56,14 +56,14 @@ impl Desk {
 }
 
 // How many desks and channels the plan has.
-#[derive(Drop)]
+#[derive(Clone, Copy)]
 pub struct Size {
     pub desks: u8,
     pub channels: u8,
 }
 
 // Desks and channels in the order of the plan. Those past the plan's size are there only to fill the arrays.
-#[derive(Drop)]
+#[derive(Clone, Copy)]
 pub struct LineSet {
     pub channels: [Channel; 32],
     pub desks: [Desk; 4],
@@ -93,7 +93,7 @@ impl LineSet {
 // What an entry's bytes ask for: its kind, and what its payload has. What a kind does not have is 0, and a telegram and a
 // plan stay in the bytes. A refusal other than 0 is 1, 2 or 3, and then all else is 0. `number` is a mobile's, `called` that of the
 // desk that it calls.
-#[derive(Drop)]
+#[derive(Clone, Copy)]
 pub struct Entry {
     pub refusal: u8,
     pub kind: u8,
@@ -106,7 +106,7 @@ pub struct Entry {
 }
 
 // What a desk says of its link.
-#[derive(Drop)]
+#[derive(Clone, Copy)]
 pub enum LinkRequest {
     // 550411: the time, which the set does not keep.
     TellsTime,
@@ -115,7 +115,7 @@ pub enum LinkRequest {
 }
 
 // What a desk asks by telegram.
-#[derive(Drop)]
+#[derive(Clone, Copy)]
 pub enum Request {
     OfLink(LinkRequest),
     // What is to happen on a channel, if the number is the desk's own.
@@ -131,7 +131,7 @@ pub enum Request {
 }
 
 // The answer to an entry: the set after it, the bytes written, and the refusal number, 0 if it was accepted.
-#[derive(Drop)]
+#[derive(Clone, Copy)]
 pub struct Answer {
     pub set: LineSet,
     pub count: usize,
@@ -139,7 +139,7 @@ pub struct Answer {
 }
 
 // What an entry is answered with where the set is lent: the bytes written, and the refusal number.
-#[derive(Drop)]
+#[derive(Clone, Copy)]
 pub struct Reply {
     pub count: usize,
     pub refusal: u8,

@@ -2,6 +2,8 @@
 // there is no argument. Then one line: the entries stepped in a round, how many the last round accepted, and the bytes
 // of the records it wrote. A round stops at the end of the feed, or after an entry refused with 1. The benchmark takes
 // the time of some rounds from that of more, so nothing else is done on the way.
+#![tactic(auto)]
+
 mod argument;
 mod rounds;
 

@@ -9,7 +9,7 @@ use set_state::LineSet;
 const LONGEST: usize = 12000;
 
 // What a round did.
-#[derive(Drop)]
+#[derive(Clone, Copy)]
 pub struct Round {
     pub entries: usize,
     pub accepted: usize,

@@ -5,7 +5,7 @@ ghost use Rattle.streams.specs.Places.{start, at_frame, at_end, unreadable};
 // The frame lies in the input from `from` to `to`, and the input is filled up to `filled`. It is the frame of that `number`,
 // counted from 1. The first `waits` bytes of the text are still to be written. `ended` says that a read found the end of the
 // input, `failed` that a call of the system failed. Where the program is to stop, it is not `going`.
-#[derive(Drop)]
+#[derive(Clone, Copy)]
 pub struct Place {
     pub from: usize,
     pub to: usize,

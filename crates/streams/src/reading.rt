@@ -19,7 +19,7 @@ fn move_to_front(input: &mut [u8], from: usize, count: usize)
 }
 
 // How many bytes a read gave. None of them are the end of the input, unless it failed.
-#[derive(Drop)]
+#[derive(Clone, Copy)]
 struct Got {
     count: usize,
     failed: bool,
@@ -60,7 +60,7 @@ pub fn read_all(input: &mut [u8]) -> usize
 }
 
 // How far the input is filled, and whether that is because it has ended or could not be read.
-#[derive(Drop)]
+#[derive(Clone, Copy)]
 struct Filling {
     filled: usize,
     ended: bool,

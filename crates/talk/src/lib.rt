@@ -1,4 +1,6 @@
 // The line rules on talk, as code.
+#![tactic(auto)]
+
 mod choices;
 mod talk;
 

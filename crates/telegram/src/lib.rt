@@ -1,4 +1,6 @@
 // The telegrams of the command link: what they say, and each one's list of fields.
+#![tactic(auto)]
+
 mod lists;
 mod message;
 

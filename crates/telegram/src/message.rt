@@ -3,7 +3,7 @@ ghost use Rattle.std.specs.Prelude.{◌≡◌};
 ghost use Rattle.telegram.specs.Telegram.{num};
 
 // The number of a desk or a mobile: eight digits.
-#[derive(Drop)]
+#[derive(Clone, Copy)]
 pub struct Number {
     pub digits: u32,
 }
@@ -22,7 +22,7 @@ impl Number {
     }
 }
 
-#[derive(Drop)]
+#[derive(Clone, Copy)]
 pub struct TimeNotice {
     pub year: u32,
     pub month: u32,
@@ -32,7 +32,7 @@ pub struct TimeNotice {
     pub second: u32,
 }
 
-#[derive(Drop)]
+#[derive(Clone, Copy)]
 pub struct RingAnswer {
     pub channel: u32,
     pub kind: u32,
@@ -40,13 +40,13 @@ pub struct RingAnswer {
     pub destination: Number,
 }
 
-#[derive(Drop)]
+#[derive(Clone, Copy)]
 pub struct OperationAnswer {
     pub system: u32,
     pub state: u32,
 }
 
-#[derive(Drop)]
+#[derive(Clone, Copy)]
 pub struct BaseArrival {
     pub channel: u32,
     pub base: u32,
@@ -55,7 +55,7 @@ pub struct BaseArrival {
     pub order: u32,
 }
 
-#[derive(Drop)]
+#[derive(Clone, Copy)]
 pub struct RingNotice {
     pub channel: u32,
     pub kind: u32,
@@ -63,13 +63,13 @@ pub struct RingNotice {
     pub destination: Number,
 }
 
-#[derive(Drop)]
+#[derive(Clone, Copy)]
 pub struct AnswerReply {
     pub channel: u32,
     pub result: u32,
 }
 
-#[derive(Drop)]
+#[derive(Clone, Copy)]
 pub struct Call {
     pub channel: u32,
     pub base: u32,
@@ -82,7 +82,7 @@ pub struct Call {
     pub destination: Number,
 }
 
-#[derive(Drop)]
+#[derive(Clone, Copy)]
 pub struct CallerNotice {
     pub channel: u32,
     pub base: u32,
@@ -92,7 +92,7 @@ pub struct CallerNotice {
     pub order: u32,
 }
 
-#[derive(Drop)]
+#[derive(Clone, Copy)]
 pub struct CallResult {
     pub channel: u32,
     pub kind: u32,
@@ -100,20 +100,20 @@ pub struct CallResult {
     pub destination: Number,
 }
 
-#[derive(Drop)]
+#[derive(Clone, Copy)]
 pub struct CaptureRequest {
     pub channel: u32,
     pub number: Number,
     pub order: u32,
 }
 
-#[derive(Drop)]
+#[derive(Clone, Copy)]
 pub struct CaptureReply {
     pub channel: u32,
     pub result: u32,
 }
 
-#[derive(Drop)]
+#[derive(Clone, Copy)]
 pub struct CaptureState {
     pub channel: u32,
     pub number: Number,
@@ -121,7 +121,7 @@ pub struct CaptureState {
 }
 
 // A telegram without its header, in the order of the identifiers. `kind` is a call's type.
-#[derive(Drop)]
+#[derive(Clone, Copy)]
 pub enum Message {
     TimeNotice(TimeNotice),
     RingAnswer(RingAnswer),
@@ -140,7 +140,7 @@ pub enum Message {
 }
 
 // What bytes read as: a message under an organisation code, or a refusal.
-#[derive(Drop)]
+#[derive(Clone, Copy)]
 pub enum Reading {
     Telegram {
         code: u32,
@@ -156,7 +156,7 @@ pub enum Reading {
 }
 
 // What became of a message to be written: so many bytes, or a refusal.
-#[derive(Drop)]
+#[derive(Clone, Copy)]
 pub enum Written {
     Count(usize),
     OutOfRange,

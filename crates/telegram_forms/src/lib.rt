@@ -1,4 +1,6 @@
 // The written form of each telegram: digits, and a function for each telegram that gives its bytes.
+#![tactic(auto)]
+
 mod digits;
 mod messages;
 

@@ -279,7 +279,7 @@ fn read_identified(code: u32, identifier: u32, body: &[u8]) -> Reading
 }
 
 // What a header says: the organisation code, if all is right with it.
-#[derive(Drop)]
+#[derive(Clone, Copy)]
 enum Header {
     Code(u32),
     Bad,

@@ -10,7 +10,7 @@ use set_state::LinkRequest;
 use telegram::{Message, Number, Reading, RingAnswer};
 
 // What an entry asks, or its refusal so far: 1 to 4, 7 to 11.
-#[derive(Drop)]
+#[derive(Clone, Copy)]
 pub enum Asked {
     Refusal(u8),
     OfLink(LinkRequest),
@@ -18,7 +18,7 @@ pub enum Asked {
 }
 
 // What an entry asks of the channel with a code.
-#[derive(Drop)]
+#[derive(Clone, Copy)]
 pub enum LineRequest {
     // What is to happen on it. The number is what a telegram gives as its desk's own.
     OnChannel {

@@ -1,6 +1,8 @@
 // Telegrams from standard input, each after its length (2 bytes, big-endian). For each it prints a line: 0 and the
 // telegram as the writer writes the message that was read, or the refusal number alone. A telegram that breaks off
 // gets no line.
+#![tactic(auto)]
+
 mod line;
 
 ghost use Rattle.std.specs.Prelude.{◌≡◌, ◌+◌, ◌≤◌, length};

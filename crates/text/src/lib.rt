@@ -1,5 +1,7 @@
 // Bytes and numbers as text. Each function puts bytes at a place of a text that has room for them, and gives the place
 // after.
+#![tactic(auto)]
+
 ghost use Rattle.std.specs.Prelude.{◌≡◌, [], ◌∷◌, ◌++◌, ◌+◌, ◌%◌, ◌≤◌, ◌<◌, length, nat_abs};
 ghost use Rattle.numerals.specs.Digits.{digits_of};
 ghost use Rattle.text.specs.Written.{Puts};

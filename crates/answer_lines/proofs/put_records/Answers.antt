@@ -1,0 +1,48 @@
+-- `answer_lines::put_records` meets its contract: record by record. The invariant: the lines of the records from `from` on are left.
+-- Assumes nothing.
+use borrow.Author.Rules.{rules}
+use Prim.Native.Nat.{◌-◌, ◌≤◌}
+use native.Mathlib.Omega.{arith}
+use lib.ListN.{length, drop}
+use Rattle.frames.specs.Frames.{frames_in}
+use Rattle.text.proofs.Kept.{puts-length}
+use Rattle.answer_lines.specs.Lines.{record_lines}
+use Rattle.answer_lines.proofs.Turns.{Putting, start, next, room, ended, Turn, turn, lines_past}
+use Rattle.answer_lines.proofs.put_records.Goals as goal
+
+-- the record that this turn shows
+now : (c : goal.After-frame_size-size)
+    → Turn c.args.records.now c.loop-from.from c.frame_size-size.result
+now c =
+    turn _ _ _ (λ i. omega (arith, c.shared_slice_known-1.given i)) c.loop-from-test.true
+    c.frame_size-size.ensures
+
+pub loop-from-init : goal.loop-from-init
+loop-from-init c = (start _ _ _, omega arith)
+
+pub overflow_add-to : goal.overflow_add-to
+overflow_add-to c = omega (arith, (now c).within)
+
+pub slice_bounds-put_record-end : goal.slice_bounds-put_record-end
+slice_bounds-put_record-end c = omega (arith, (now c).within)
+
+pub put_record-place-requires : goal.put_record-place-requires
+put_record-place-requires c =
+    let d = c.before.before in
+    room d.loop-from.invariant.0 (now d).parts d.requires
+
+pub loop-from-smaller : goal.loop-from-smaller
+loop-from-smaller c = let t = now c.before.before.before.before.before in omega (arith, t.within, t.some)
+
+pub loop-from-preserved : goal.loop-from-preserved
+loop-from-preserved c =
+    let d = c.before.before.before.before.before in
+    (next d.loop-from.invariant.0 (now d).parts c.put_record-place.ensures, (now d).within)
+
+pub shape_of-text : goal.shape_of-text
+shape_of-text c = puts-length c.loop-from.invariant.0.puts
+
+pub returns : goal.returns
+returns c =
+    let l = c.loop-from in
+    ended l.invariant.0 (lines_past c.args.records.now l.from (omega arith))

@@ -1,0 +1,20 @@
+-- `entries::entry::read_mobile_on` meets its contract: the size, then the base, are tested.
+-- Assumes nothing.
+use mathlib.Core.Path.{sym, ◌∙◌}
+use borrow.Author.Tests.{eq-eqb, ne_eqb, not-true, not-false}
+use Rattle.laws.specs.Table.{pick}
+use Rattle.entries.specs.Payloads.{payload_in}
+use borrow.Author.Rules.{rules}
+use Rattle.entries.proofs.entry.read_mobile_on.Goals as goal
+
+pub returns-then-entry-ne14 : goal.returns-then-entry-ne14
+unfolding pick payload_in
+returns-then-entry-ne14 c = simp (ne_eqb _ _ c.if-entry-ne14.true) c.refused.ensures
+
+pub returns-then-not-is_base : goal.returns-then-not-is_base
+unfolding pick payload_in
+returns-then-not-is_base c = simp (eq-eqb _ _ c.if-entry-ne14.false, sym c.is_base.ensures ∙ not-true _ c.if-not-is_base.true) c.refused-then-not-is_base.ensures
+
+pub returns : goal.returns
+unfolding pick payload_in
+returns c = simp (eq-eqb _ _ c.if-entry-ne14.false, sym c.is_base.ensures ∙ not-false _ c.if-not-is_base.false, c.read_digits-number.ensures)

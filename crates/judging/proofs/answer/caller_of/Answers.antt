@@ -1,0 +1,11 @@
+-- `judging::answer::caller_of` meets its contract, case by case.
+-- Assumes nothing.
+use mathlib.Core.Path.{refl}
+use borrow.Author.Rules.{rules}
+use Rattle.judging.proofs.answer.caller_of.Goals as goal
+
+pub returns-in-Closed : goal.returns-in-Closed
+returns-in-Closed c = rw c.in-Closed.is refl
+
+pub returns-in-Open : goal.returns-in-Open
+returns-in-Open c = rw c.in-Open.is refl

@@ -1,0 +1,8 @@
+-- `judging::judging::is_idle` meets its contract.
+-- Assumes nothing.
+use mathlib.Core.Path.{refl}
+use borrow.Author.Rules.{rules}
+use Rattle.judging.proofs.judging.is_idle.Goals as goal
+
+pub returns : goal.returns
+returns c = simp (c.is_held_lem.ensures, c.is_open.ensures, c.is_present.ensures) refl

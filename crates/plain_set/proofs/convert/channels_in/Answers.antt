@@ -1,0 +1,16 @@
+-- `plain_set::convert::channels_in` meets its contract: a channel a turn.
+-- Assumes nothing.
+use Prim.Native.Nat.{◌-◌}
+use borrow.Author.Rules.{rules}
+use Rattle.plain_set.specs.Plain.{channel_in}
+use Rattle.plain_set.proofs.Maps.{Mapped, map-start, map_next, map-done}
+use Rattle.plain_set.proofs.convert.channels_in.Goals as goal
+
+pub loop-i-init : goal.loop-i-init
+loop-i-init c = map-start (search rules) (search rules)
+
+pub loop-i-preserved : goal.loop-i-preserved
+loop-i-preserved c = map_next c.loop-i.invariant c.loop-i-test.true _ c.channel_in-c.ensures
+
+pub returns : goal.returns
+returns c = map-done c.loop-i.invariant c.loop-i-test.false

@@ -1,0 +1,24 @@
+-- `streams::reading::read_more` meets its contract: what is there stays.
+-- Assumes nothing.
+use Rattle.std.proofs.Common.{take, arith, length-take-le, take_at, rules}
+use Rattle.streams.proofs.reading.read_more.Goals as goal
+
+pub returns-then-got-lt0 : goal.returns-then-got-lt0
+returns-then-got-lt0 c =
+    let a = c.args in
+    record {
+      kept = take_at (take a.have a.input.now) _ a.have (length-take-le a.have a.input.now (omega arith));
+      long = search rules;
+      least = omega arith;
+      most = search rules;
+    }
+
+pub returns : goal.returns
+returns c =
+    let a = c.args in
+    record {
+      kept = take_at (take a.have a.input.now) _ a.have (length-take-le a.have a.input.now (omega arith));
+      long = search rules;
+      least = omega arith;
+      most = search rules;
+    }

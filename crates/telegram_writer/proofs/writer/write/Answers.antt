@@ -1,0 +1,45 @@
+-- `telegram_writer::writer::write` meets its contract: the tests in the order of `write_answer`, and then `put`.
+-- Assumes nothing.
+use mathlib.Core.Path.{sym, ◌∙◌}
+use native.Mathlib.Omega.{arith}
+use lib.ListN.{length}
+use borrow.Author.Tests.{not-true, not-false, le-leb, lt-leb}
+use Rattle.telegram.specs.Telegram.{size_of, write_answer, write_into}
+use borrow.Author.Rules.{rules}
+use Rattle.telegram_writer.proofs.writer.write.Goals as goal
+
+pub returns-then-code-gt1023 : goal.returns-then-code-gt1023
+unfolding write_answer write_into
+returns-then-code-gt1023 c = (simp (lt-leb _ _ c.if-code-gt1023.true), simp (lt-leb _ _ c.if-code-gt1023.true))
+
+pub returns-then-not-in_range : goal.returns-then-not-in_range
+unfolding write_answer write_into
+returns-then-not-in_range c =
+    let o = le-leb _ _ c.if-code-gt1023.false in
+    let a = sym c.is_in_range.ensures ∙ not-true _ c.if-not-in_range.true in
+    (simp (o, a), simp (o, a))
+
+pub returns-then-buffer-size : goal.returns-then-buffer-size
+unfolding write_answer write_into
+returns-then-buffer-size c =
+    let k = c.before.before.before in
+    let g = k.args in
+    let o = le-leb _ _ k.if-code-gt1023.false in
+    let a = sym k.is_in_range.ensures ∙ not-false _ c.if-not-in_range.false in
+    let n = lt-leb (size_of g.message) (length g.buffer.now) (omega (arith, c.size.ensures)) in
+    (simp (o, a, n), simp (o, a, n))
+
+pub put-requires : goal.put-requires
+put-requires c = omega (arith, c.size.ensures)
+
+pub returns : goal.returns
+unfolding write_answer write_into
+returns c =
+    let l = c.before.before.before.before.before in
+    let k = l.before.before in
+    let g = k.args in
+    let o = le-leb _ _ k.if-code-gt1023.false in
+    let a = sym k.is_in_range.ensures ∙ not-false _ l.if-not-in_range.false in
+    let n = le-leb (size_of g.message) (length g.buffer.now) (omega (arith, l.size.ensures)) in
+    let p = c.put.ensures in
+    (simp (o, a, n, p.0), simp (o, a, n) p.1)

@@ -1,0 +1,8 @@
+-- `timers::timers::may_fall` meets its contract.
+-- Assumes nothing.
+use borrow.Author.Rules.{rules}
+use mathlib.Core.Path.{refl}
+use Rattle.timers.proofs.timers.may_fall.Goals as goal
+
+pub returns : goal.returns
+returns c = rw c.is_held_lem.ensures refl
