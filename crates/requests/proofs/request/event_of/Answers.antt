@@ -17,7 +17,7 @@ pub returns-in-3 : goal.returns-in-3
 returns-in-3 c = simp c.in-3.is refl
 
 pub returns-in-4 : goal.returns-in-4
-returns-in-4 c = simp c.in-4.is (ap (λ (k : Number). MobileOn c.args.x.base k) c.number_in_lem.ensures)
+returns-in-4 c = simp c.in-4.is (ap (λ (k : Number). MobileOn c.args.x.base k) c.number_in.ensures)
 
 pub returns-in-9 : goal.returns-in-9
 returns-in-9 c = simp c.in-9.is c.ring_of.ensures
@@ -27,5 +27,5 @@ returns-in-10 c = simp c.in-10.is refl
 
 pub returns-in_default : goal.returns-in_default
 returns-in_default c =
-    let r = c.in_default.rest in
+    let r = c.in_default-own.rest in
     simp (ne_eqb _ _ r.0.0.0.0.1, ne_eqb _ _ r.0.0.0.1, ne_eqb _ _ r.0.0.1, ne_eqb _ _ r.0.1, ne_eqb _ _ r.1) refl

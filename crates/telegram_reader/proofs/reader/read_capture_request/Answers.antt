@@ -37,7 +37,7 @@ returns-then-b-ne13 c = c.no_fields.ensures ∙ sym (fields-spelt (23 ∷ 71 ∷
 
 -- what is read, by the answers on the four ranges
 told : (c : goal.After-in_range-4) → fields_in capture_request.body c.args.b.now
-    ≡ cond (c.is_in_range.result && c.in_range-2.result && c.in_range-3.result && c.in_range-4.result)
+    ≡ cond (c.in_range.result && c.in_range-2.result && c.in_range-3.result && c.in_range-4.result)
     (record {
       ok = true;
       values = padded (c.four-channel.result
@@ -49,7 +49,7 @@ unfolding all_in
 told c =
     let b = c.args.b.now in
     let e : length b ≡ 13 = c.if-b-ne13.false in
-    fields-spelt (23 ∷ 71 ∷ 8 ∷ 81 ∷ []) b (lit≤ tt) ∙ rw (eq-eqb (length b) 13 e, numbers_are c, c.is_in_range.ensures, c.in_range-2.ensures, c.in_range-3.ensures, c.in_range-4.ensures) (simp (and_assoc, and-true))
+    fields-spelt (23 ∷ 71 ∷ 8 ∷ 81 ∷ []) b (lit≤ tt) ∙ rw (eq-eqb (length b) 13 e, numbers_are c, c.in_range.ensures, c.in_range-2.ensures, c.in_range-3.ensures, c.in_range-4.ensures) (simp (and_assoc, and-true))
 
 pub returns-then-in_range : goal.returns-then-in_range
 returns-then-in_range c = sym (told c.before ∙ rw c.if-in_range.true)

@@ -32,12 +32,12 @@ returns-then-s-ne8 c = c.no_fields.ensures ∙ sym (fields-spelt (4 ∷ 14 ∷ [
 
 -- what is read, by the answers on the ranges
 told : (c : goal.After-in_range-2) → fields_in (length4 ∷ code ∷ []) c.args.s.now
-    ≡ cond (c.is_in_range.result && c.in_range-2.result) (record { ok = true; values = padded (c.four-n.result ∷ c.four-code.result ∷ []) }) no_fields
+    ≡ cond (c.in_range.result && c.in_range-2.result) (record { ok = true; values = padded (c.four-n.result ∷ c.four-code.result ∷ []) }) no_fields
 unfolding all_in
 told c =
     let b = c.args.s.now in
     let e : length b ≡ 8 = c.if-s-ne8.false in
-    fields-spelt (4 ∷ 14 ∷ []) b (lit≤ tt) ∙ rw (eq-eqb (length b) 8 e, numbers_are c, c.is_in_range.ensures, c.in_range-2.ensures) (simp (and_assoc, and-true))
+    fields-spelt (4 ∷ 14 ∷ []) b (lit≤ tt) ∙ rw (eq-eqb (length b) 8 e, numbers_are c, c.in_range.ensures, c.in_range-2.ensures) (simp (and_assoc, and-true))
 
 pub returns-then-in_range : goal.returns-then-in_range
 returns-then-in_range c = sym (told c.before ∙ rw c.if-in_range.true)
