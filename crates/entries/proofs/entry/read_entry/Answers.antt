@@ -21,20 +21,20 @@ long e h = leb-true 4 (length e) (both (leb 4 (length e)) (eqb (word e 0 + 2) (l
 
 pub returns-then-not-is_measured : goal.returns-then-not-is_measured
 unfolding read_entry
-returns-then-not-is_measured c = rw (sym c.is_measured.ensures ∙ not-true _ c.if-not-is_measured.true) c.refused.ensures
+returns-then-not-is_measured c = rw (sym c.is_measured.ensures ∙ c.if-not-is_measured.true) c.refused.ensures
 
 pub bounds-entry-2 : goal.bounds-entry-2
-bounds-entry-2 c = omega (arith, long c.args.entry.now (sym c.is_measured.ensures ∙ not-false _ c.if-not-is_measured.false))
+bounds-entry-2 c = omega (arith, long c.args.entry.now (sym c.is_measured.ensures ∙ c.if-not-is_measured.false))
 
 pub returns-then-entry-ne1 : goal.returns-then-entry-ne1
 unfolding read_entry
 returns-then-entry-ne1 c =
-    rw (sym c.is_measured.ensures ∙ not-false _ c.if-not-is_measured.false, ne_eqb _ _ c.if-entry-ne1.true) c.refused-then-entry-ne1.ensures
+    rw (sym c.is_measured.ensures ∙ c.if-not-is_measured.false, ne_eqb _ _ c.if-entry-ne1.true) c.refused-then-entry-ne1.ensures
 
 pub bounds-entry-3 : goal.bounds-entry-3
-bounds-entry-3 c = omega (arith, long c.args.entry.now (sym c.is_measured.ensures ∙ not-false _ c.if-not-is_measured.false))
+bounds-entry-3 c = omega (arith, long c.args.entry.now (sym c.is_measured.ensures ∙ c.if-not-is_measured.false))
 
 pub returns : goal.returns
 unfolding read_entry payload_in
 returns c =
-    rw (sym c.is_measured.ensures ∙ not-false _ c.if-not-is_measured.false, eq-eqb _ _ c.if-entry-ne1.false) c.read_payload.ensures
+    rw (sym c.is_measured.ensures ∙ c.if-not-is_measured.false, eq-eqb _ _ c.if-entry-ne1.false) c.read_payload.ensures

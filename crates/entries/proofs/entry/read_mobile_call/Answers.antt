@@ -13,8 +13,8 @@ returns-then-entry-ne22 c = simp (ne_eqb _ _ c.if-entry-ne22.true) c.refused.ens
 
 pub returns-then-not-is_base : goal.returns-then-not-is_base
 unfolding pick payload_in
-returns-then-not-is_base c = simp (eq-eqb _ _ c.if-entry-ne22.false, sym c.is_base.ensures ∙ not-true _ c.if-not-is_base.true) c.refused-then-not-is_base.ensures
+returns-then-not-is_base c = simp (eq-eqb _ _ c.if-entry-ne22.false, sym c.is_base.ensures ∙ c.if-not-is_base.true) c.refused-then-not-is_base.ensures
 
 pub returns : goal.returns
 unfolding pick payload_in
-returns c = simp (eq-eqb _ _ c.if-entry-ne22.false, sym c.is_base.ensures ∙ not-false _ c.if-not-is_base.false, c.read_digits-number.ensures, c.read_digits-called.ensures)
+returns c = simp (eq-eqb _ _ c.if-entry-ne22.false, sym c.is_base.ensures ∙ c.if-not-is_base.false, c.read_digits-number.ensures, c.read_digits-called.ensures)

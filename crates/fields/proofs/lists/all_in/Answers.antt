@@ -21,7 +21,7 @@ returns-then-not-in_range c =
     let ks = c.args.fields.now in
     let vs = c.args.values.now in
     let e = all_in_at ks vs l.i l.y l.m (search rules) (omega arith) in
-    let r : in_range (field_of (get_or ks l.i 0)) l.y l.m (get_or vs l.i 0) ≡ false = sym c.in_range.ensures ∙ not-true _ c.if-not-in_range.true in
+    let r : in_range (field_of (get_or ks l.i 0)) l.y l.m (get_or vs l.i 0) ≡ false = sym c.in_range.ensures ∙ c.if-not-in_range.true in
     sym (l.invariant.1 ∙ e ∙ simp r)
 
 pub loop-i-preserved : goal.loop-i-preserved
@@ -30,7 +30,7 @@ loop-i-preserved c =
     let ks = c.args.fields.now in
     let vs = c.args.values.now in
     let e = all_in_at ks vs l.i l.y l.m (search rules) (omega arith) in
-    let r : in_range (field_of (get_or ks l.i 0)) l.y l.m (get_or vs l.i 0) ≡ true = sym c.in_range.ensures ∙ not-false _ c.if-not-in_range.false in
+    let r : in_range (field_of (get_or ks l.i 0)) l.y l.m (get_or vs l.i 0) ≡ true = sym c.in_range.ensures ∙ c.if-not-in_range.false in
     (search rules, l.invariant.1 ∙ e ∙ simp r)
 
 pub returns : goal.returns

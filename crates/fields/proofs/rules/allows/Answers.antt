@@ -64,4 +64,4 @@ pub returns-in-13 : goal.returns-in-13
 returns-in-13 c = rw c.in-13.is
 
 pub returns-in_default : goal.returns-in_default
-returns-in_default c = sym (no_rule (c.args.k / 10) _ _ _ (past (c.args.k / 10) 13 c.in_default-own.rest))
+returns-in_default c = sym (no_rule (c.args.k / 10) _ _ _ (past (c.args.k / 10) 13 c.in_default.in_default-own.rest))

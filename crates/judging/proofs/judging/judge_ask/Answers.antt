@@ -6,10 +6,10 @@ use borrow.Author.Rules.{rules}
 use Rattle.judging.proofs.judging.judge_ask.Goals as goal
 
 pub returns-then-not-may_use : goal.returns-then-not-may_use
-returns-then-not-may_use c = simp (sym c.may_use.ensures ∙ not-true _ c.if-not-may_use.true) refl
+returns-then-not-may_use c = simp (sym c.may_use.ensures ∙ c.if-not-may_use.true) refl
 
 pub returns-then-number-own : goal.returns-then-number-own
-returns-then-number-own c = simp (sym c.may_use.ensures ∙ not-false _ c.if-not-may_use.false, eq-eqb _ _ c.if-number-own.true) refl
+returns-then-number-own c = simp (sym c.may_use.ensures ∙ c.if-not-may_use.false, eq-eqb _ _ c.if-number-own.true) refl
 
 pub returns-else-number-own : goal.returns-else-number-own
-returns-else-number-own c = simp (sym c.may_use.ensures ∙ not-false _ c.if-not-may_use.false, ne_eqb _ _ c.if-number-own.false) refl
+returns-else-number-own c = simp (sym c.may_use.ensures ∙ c.if-not-may_use.false, ne_eqb _ _ c.if-number-own.false) refl

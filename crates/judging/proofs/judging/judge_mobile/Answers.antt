@@ -15,10 +15,10 @@ pub returns-else-is_present : goal.returns-else-is_present
 returns-else-is_present c = simp (not-false c.args.found c.if-not-found.false, ne_eqb _ _ c.if-x-ne4.true, sym c.is_present.ensures ∙ c.if-is_present.false) refl
 
 pub returns-then-not-is_caller : goal.returns-then-not-is_caller
-returns-then-not-is_caller c = simp (not-false c.args.found c.if-not-found.false, eq-eqb _ _ c.if-x-ne4.false, sym c.is_caller.ensures ∙ not-true _ c.if-not-is_caller.true) refl
+returns-then-not-is_caller c = simp (not-false c.args.found c.if-not-found.false, eq-eqb _ _ c.if-x-ne4.false, sym c.is_caller.ensures ∙ c.if-not-is_caller.true) refl
 
 pub returns-then-is_present-c : goal.returns-then-is_present-c
-returns-then-is_present-c c = rw (not-false c.args.found c.if-not-found.false, eq-eqb _ _ c.if-x-ne4.false, sym c.is_caller.ensures ∙ not-false _ c.if-not-is_caller.false, ← c.is_present-2.ensures, c.if-is_present-c.true) refl
+returns-then-is_present-c c = rw (not-false c.args.found c.if-not-found.false, eq-eqb _ _ c.if-x-ne4.false, sym c.is_caller.ensures ∙ c.if-not-is_caller.false, ← c.is_present-2.ensures, c.if-is_present-c.true) refl
 
 pub returns-else-is_present-c : goal.returns-else-is_present-c
-returns-else-is_present-c c = rw (not-false c.args.found c.if-not-found.false, eq-eqb _ _ c.if-x-ne4.false, sym c.is_caller.ensures ∙ not-false _ c.if-not-is_caller.false, ← c.is_present-2.ensures, c.if-is_present-c.false) refl
+returns-else-is_present-c c = rw (not-false c.args.found c.if-not-found.false, eq-eqb _ _ c.if-x-ne4.false, sym c.is_caller.ensures ∙ c.if-not-is_caller.false, ← c.is_present-2.ensures, c.if-is_present-c.false) refl

@@ -33,7 +33,7 @@ returns-then-not-is_channel c =
     let st = c.before.before.before.before.before.before.before.before.before.before in
     let l = c.loop-i in
     let s = st.args.s.now in
-    let t : (between l.low 99 (get_or s l.at 0) && between 1 (first_desks st.args.desks) (get_or s (l.at + 1) 0)) ≡ false = rw c.first_desks-all.ensures at (sym c.is_channel.ensures ∙ not-true _ c.if-not-is_channel.true) in
+    let t : (between l.low 99 (get_or s l.at 0) && between 1 (first_desks st.args.desks) (get_or s (l.at + 1) 0)) ≡ false = rw c.first_desks-all.ensures at (sym c.is_channel.ensures ∙ c.if-not-is_channel.true) in
     let e : channels_ok st.args.n 0 st.args.desks s ≡ false = l.invariant.3 ∙ channels_ok_at st.args.n l.i (search rules) s l.at l.low st.args.desks ∙ rw t in
     rw e c.no_channels_lem.ensures
 
@@ -42,7 +42,7 @@ overflow_add-low c =
     let s = c.args.s.now in
     let l = c.loop-i in
     let a = c.first_desks-all.result in
-    omega (arith, code-low l.low (get_or s l.at 0) a (get_or s (l.at + 1) 0) (sym c.is_channel.ensures ∙ not-false _ c.if-not-is_channel.false))
+    omega (arith, code-low l.low (get_or s l.at 0) a (get_or s (l.at + 1) 0) (sym c.is_channel.ensures ∙ c.if-not-is_channel.false))
 
 pub loop-i-preserved : goal.loop-i-preserved
 loop-i-preserved c =
@@ -50,7 +50,7 @@ loop-i-preserved c =
     let l = c.loop-i in
     let s = st.args.s.now in
     let h : l.i < st.args.n = search rules in
-    let t : (between l.low 99 (get_or s l.at 0) && between 1 (first_desks st.args.desks) (get_or s (l.at + 1) 0)) ≡ true = rw c.first_desks-all.ensures at (sym c.is_channel.ensures ∙ not-false _ c.if-not-is_channel.false) in (
+    let t : (between l.low 99 (get_or s l.at 0) && between 1 (first_desks st.args.desks) (get_or s (l.at + 1) 0)) ≡ true = rw c.first_desks-all.ensures at (sym c.is_channel.ensures ∙ c.if-not-is_channel.false) in (
       search rules,
       omega arith,
       simp length-set l.invariant.2,

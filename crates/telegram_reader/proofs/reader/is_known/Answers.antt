@@ -47,4 +47,4 @@ pub returns-in-550651 : goal.returns-in-550651
 returns-in-550651 c = rw c.in-550651.is
 
 pub returns-in_default : goal.returns-in_default
-returns-in_default c = sym (unlisted _ c.in_default-own.rest).known
+returns-in_default c = sym (unlisted _ c.in_default.in_default-own.rest).known

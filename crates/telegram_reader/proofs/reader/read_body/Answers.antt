@@ -48,4 +48,4 @@ pub returns-in-550651 : goal.returns-in-550651
 returns-in-550651 c = rw c.in-550651.is c.read_fields-in-550651.ensures
 
 pub returns-in_default : goal.returns-in_default
-returns-in_default c = c.no_fields.ensures ∙ sym ((unlisted _ c.in_default-own.rest).body _)
+returns-in_default c = c.no_fields.ensures ∙ sym ((unlisted _ c.in_default.in_default-own.rest).body _)

@@ -16,7 +16,7 @@ pub returns-then-not-in_range : goal.returns-then-not-in_range
 unfolding write_answer write_into
 returns-then-not-in_range c =
     let o = le-leb _ _ c.if-code-gt1023.false in
-    let a = sym c.in_range.ensures ∙ not-true _ c.if-not-in_range.true in
+    let a = sym c.in_range.ensures ∙ c.if-not-in_range.true in
     (simp (o, a), simp (o, a))
 
 pub returns-then-buffer-size : goal.returns-then-buffer-size
@@ -25,7 +25,7 @@ returns-then-buffer-size c =
     let k = c.before.before.before in
     let g = k.args in
     let o = le-leb _ _ k.if-code-gt1023.false in
-    let a = sym k.in_range.ensures ∙ not-false _ c.if-not-in_range.false in
+    let a = sym k.in_range.ensures ∙ c.if-not-in_range.false in
     let n = lt-leb (size_of g.message) (length g.buffer.now) (omega (arith, c.size.ensures)) in
     (simp (o, a, n), simp (o, a, n))
 
@@ -39,7 +39,7 @@ returns c =
     let k = l.before.before in
     let g = k.args in
     let o = le-leb _ _ k.if-code-gt1023.false in
-    let a = sym k.in_range.ensures ∙ not-false _ l.if-not-in_range.false in
+    let a = sym k.in_range.ensures ∙ l.if-not-in_range.false in
     let n = le-leb (size_of g.message) (length g.buffer.now) (omega (arith, l.size.ensures)) in
     let p = c.put.ensures in
     (simp (o, a, n, p.0), simp (o, a, n) p.1)
