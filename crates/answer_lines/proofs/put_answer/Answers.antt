@@ -7,9 +7,10 @@ use Rattle.answer_lines.specs.Lines.{lines_of}
 use Rattle.answer_lines.proofs.Room.{bytes_take, lines_room}
 use borrow.Author.Rules.{rules}
 use Rattle.answer_lines.proofs.put_answer.Goals as goal
+use Rattle.answer_lines.proofs.put_answer.Goals.{After-shared_slice_known-1}
 
 -- what the answer takes
-taken : (c : goal.After-shared_slice_known-1)
+taken : (c : After-shared_slice_known-1)
     → let a = c.args in length (lines_of a.number a.refusal a.count (take a.count a.buffer.now)) ≤ 73776
 taken c =
     let s = c.before in
@@ -19,10 +20,10 @@ taken c =
     (bytes_take n b (λ i. omega (arith, c.shared_slice_known-1.given i))) (omega (arith, s.requires.0, length-take n b))
 
 pub put_lines-requires : goal.put_lines-requires
-put_lines-requires c = let d = c.before.before in omega (arith, d.requires.1, taken d)
+put_lines-requires c = let d = c in omega (arith, d.requires.1, taken (goal.at.put_lines-requires c).After-shared_slice_known-1)
 
 pub returns : goal.returns
 returns c =
-    let d = c.before.before.before.before.before in
+    let d = c in
     let p = c.put_lines.ensures in
-    (omega (arith, d.requires.1, p.place, taken d), p)
+    (omega (arith, d.requires.1, p.place, taken (goal.at.returns c).After-shared_slice_known-1), p)

@@ -20,7 +20,7 @@ put_entry-place-requires c =
 
 pub put_records-requires : goal.put_records-requires
 put_records-requires c =
-    let d = c.before.before.before.before in
+    let d = c in
     let a = d.args in
     let e : take a.count a.buffer.now ≡ a.buffer.now = take_all a.count a.buffer.now (omega arith) in
     let l = ap length (ap (λ (bs : List ℕ). record_lines (frames_in bs)) e) in
@@ -28,7 +28,7 @@ put_records-requires c =
 
 pub returns-then-buffer-count : goal.returns-then-buffer-count
 returns-then-buffer-count c =
-    let d = c.before.before.before.before.before.before.before in
+    let d = c in
     let a = d.args in
     let e : take a.count a.buffer.now ≡ a.buffer.now = take_all a.count a.buffer.now (omega arith) in
     rw (answer-parts, e) (also d.put_entry-place.ensures c.put_records.ensures)
@@ -40,11 +40,11 @@ slice_bounds-put_records-end c =
 
 pub put_records-requires-2 : goal.put_records-requires-2
 put_records-requires-2 c =
-    let d = c.before.before.before.before.before in
+    let d = c in
     let a = d.args in
     omega (arith, d.put-entry.ensures.place, answer-length a.number a.refusal a.count (take a.count a.buffer.now))
 
 pub returns : goal.returns
 returns c =
-    let d = c.before.before.before.before.before.before.before.before in
+    let d = c in
     rw answer-parts (also d.put-entry.ensures c.put_records-2.ensures)

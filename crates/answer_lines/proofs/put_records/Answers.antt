@@ -9,9 +9,10 @@ use Rattle.text.proofs.Kept.{puts-length}
 use Rattle.answer_lines.specs.Lines.{record_lines}
 use Rattle.answer_lines.proofs.Turns.{Putting, start, next, room, ended, Turn, turn, lines_past}
 use Rattle.answer_lines.proofs.put_records.Goals as goal
+use Rattle.answer_lines.proofs.put_records.Goals.{After-frame_size-size}
 
 -- the record that this turn shows
-now : (c : goal.After-frame_size-size)
+now : (c : After-frame_size-size)
     → Turn c.args.records.now c.loop-from.from c.frame_size-size.result
 now c =
     turn _ _ _ (λ i. omega (arith, c.shared_slice_known-1.given i)) c.loop-from-test.true
@@ -21,23 +22,23 @@ pub loop-from-init : goal.loop-from-init
 loop-from-init c = (start _ _ _, omega arith)
 
 pub overflow_add-to : goal.overflow_add-to
-overflow_add-to c = omega (arith, (now c).within)
+overflow_add-to c = omega (arith, (now (goal.at.overflow_add-to c).After-frame_size-size).within)
 
 pub slice_bounds-put_record-end : goal.slice_bounds-put_record-end
-slice_bounds-put_record-end c = omega (arith, (now c).within)
+slice_bounds-put_record-end c = omega (arith, (now (goal.at.slice_bounds-put_record-end c).After-frame_size-size).within)
 
 pub put_record-place-requires : goal.put_record-place-requires
 put_record-place-requires c =
-    let d = c.before.before in
-    room d.loop-from.invariant.0 (now d).parts d.requires
+    let d = c in
+    room d.loop-from.invariant.0 (now (goal.at.put_record-place-requires c).After-frame_size-size).parts d.requires
 
 pub loop-from-smaller : goal.loop-from-smaller
-loop-from-smaller c = let t = now c.before.before.before.before.before in omega (arith, t.within, t.some)
+loop-from-smaller c = let t = now (goal.at.loop-from-smaller c).After-frame_size-size in omega (arith, t.within, t.some)
 
 pub loop-from-preserved : goal.loop-from-preserved
 loop-from-preserved c =
-    let d = c.before.before.before.before.before in
-    (next d.loop-from.invariant.0 (now d).parts c.put_record-place.ensures, (now d).within)
+    let d = c in
+    (next d.loop-from.invariant.0 (now (goal.at.loop-from-preserved c).After-frame_size-size).parts c.put_record-place.ensures, (now (goal.at.loop-from-preserved c).After-frame_size-size).within)
 
 pub shape_of-text : goal.shape_of-text
 shape_of-text c = puts-length c.loop-from.invariant.0.puts

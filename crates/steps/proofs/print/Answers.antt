@@ -7,6 +7,6 @@ use Rattle.steps.proofs.print.Goals as goal
 
 pub write_out-requires : goal.write_out-requires
 write_out-requires c =
-    let st = c.before.before.before.before in
+    let st = c in
     let put = c.put_round-waits.ensures in
     omega (arith, put.place, puts-length put, line-fits st.args.round st.well-formed.0.1.1.0.1 st.well-formed.0.1.1.1.0.1 st.well-formed.0.1.1.1.1.0.1)

@@ -18,14 +18,14 @@ slice_bounds-put_line-start c = has-length c.args.frame.now c.word.result c.if-w
 
 pub returns-then-whole : goal.returns-then-whole
 returns-then-whole c =
-    let d = c.before.before.before.before.before.before.before.before.before in
+    let d = c in
     let word = c.word in
     let put = whole_put d.args.frame.now word.result word.ensures d.args.text.now d.args.at.waits d.requires c.if-whole.true c.put_line-waits.ensures in
     (shown-whole d.args.at d.args.frame.now word.result c.put_line-waits.result word.ensures, put.0, put.1)
 
 pub returns-else-whole : goal.returns-else-whole
 returns-else-whole c =
-    let d = c.before.before.before.before in
+    let d = c in
     let word = c.word in
     let put = none_put d.args.frame.now word.result word.ensures d.args.text.now d.args.at.waits d.requires c.if-whole.false in
     (shown-whole d.args.at d.args.frame.now word.result d.args.at.waits word.ensures, put.0, put.1)

@@ -11,12 +11,12 @@ use Rattle.text.proofs.put_number.Goals as goal
 
 pub put_thousands-place-requires : goal.put_thousands-place-requires
 put_thousands-place-requires c =
-    let st = c.before.before.before in
+    let st = c in
     omega (arith, st.requires, simp length-append at (ap length (decimal_thousand st.args.n (omega arith))))
 
 pub put_three-requires : goal.put_three-requires
 put_three-requires c =
-    let st = c.before.before.before.before.before.before.before in
+    let st = c in
     let e = decimal_thousand st.args.n (omega arith) in
     omega (arith, st.requires, c.put_thousands-place.ensures.place, length_digits 3 st.args.n, simp length-append at (ap length e))
 

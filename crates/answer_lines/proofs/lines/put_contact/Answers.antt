@@ -14,20 +14,20 @@ put_letter-first-requires c =
 
 pub put_item-second-requires : goal.put_item-second-requires
 put_item-second-requires c =
-    let first = c.before.before.before in
+    let first = c in
     let a = first.args in
     omega (arith, contact-length a.desk a.contact a.channel a.on, first.put_letter-first.ensures.place)
 
 pub put_item-third-requires : goal.put_item-third-requires
 put_item-third-requires c =
-    let second = c.before.before.before in
+    let second = c in
     let first = second.before.before.before.before in
     let a = first.args in
     omega (arith, contact-length a.desk a.contact a.channel a.on, first.put_letter-first.ensures.place, simp length-append at second.put_item-second.ensures.place)
 
 pub put_item-fourth-requires : goal.put_item-fourth-requires
 put_item-fourth-requires c =
-    let third = c.before.before.before in
+    let third = c in
     let second = third.before.before.before.before in
     let first = second.before.before.before.before in
     let a = first.args in
@@ -35,7 +35,7 @@ put_item-fourth-requires c =
 
 pub put_item-requires : goal.put_item-requires
 put_item-requires c =
-    let fourth = c.before.before.before in
+    let fourth = c in
     let third = fourth.before.before.before.before in
     let second = third.before.before.before.before in
     let first = second.before.before.before.before in
@@ -44,7 +44,7 @@ put_item-requires c =
 
 pub returns : goal.returns
 returns c =
-    let fifth = c.before.before in
+    let fifth = c in
     let fourth = fifth.before.before.before.before in
     let third = fourth.before.before.before.before in
     let second = third.before.before.before.before in

@@ -14,20 +14,20 @@ put_letter-first-requires c =
 
 pub put_item-second-requires : goal.put_item-second-requires
 put_item-second-requires c =
-    let first = c.before.before.before in
+    let first = c in
     let a = first.args in
     omega (arith, entry_length a.number a.refusal a.count, first.put_letter-first.ensures.place)
 
 pub put_item-third-requires : goal.put_item-third-requires
 put_item-third-requires c =
-    let second = c.before.before.before in
+    let second = c in
     let first = second.before.before.before.before in
     let a = first.args in
     omega (arith, entry_length a.number a.refusal a.count, first.put_letter-first.ensures.place, simp length-append at second.put_item-second.ensures.place)
 
 pub put_item-requires : goal.put_item-requires
 put_item-requires c =
-    let third = c.before.before.before in
+    let third = c in
     let second = third.before.before.before.before in
     let first = second.before.before.before.before in
     let a = first.args in
@@ -35,7 +35,7 @@ put_item-requires c =
 
 pub returns : goal.returns
 returns c =
-    let fourth = c.before.before in
+    let fourth = c in
     let third = fourth.before.before.before.before in
     let second = third.before.before.before.before in
     let first = second.before.before.before.before in

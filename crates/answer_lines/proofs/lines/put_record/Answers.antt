@@ -10,44 +10,45 @@ use Rattle.text.proofs.Kept.{puts_none}
 use Rattle.answer_lines.proofs.LineLaws.{kind-there, line-telegram, line-contact, line_other}
 use borrow.Author.Rules.{rules}
 use Rattle.answer_lines.proofs.lines.put_record.Goals as goal
+use Rattle.answer_lines.proofs.lines.put_record.Goals.{After-shared_slice_known-then-bytes-ge8-1, After-shared_slice_known-then-kind-eq1-1}
 
 -- a telegram, and so there are the bytes before it
-telegram : (c : goal.After-shared_slice_known-then-kind-eq1-1) → byte c.args.bytes.now 4 ≡ 1
+telegram : (c : After-shared_slice_known-then-kind-eq1-1) → byte c.args.bytes.now 4 ≡ 1
 telegram c = sym c.byte-kind.ensures ∙ c.if-kind-eq1.true
 
-long : (c : goal.After-shared_slice_known-then-kind-eq1-1) → 5 ≤ length c.args.bytes.now
+long : (c : After-shared_slice_known-then-kind-eq1-1) → 5 ≤ length c.args.bytes.now
 long c = kind-there c.args.bytes.now (telegram c)
 
 -- a contact
-contact : (c : goal.After-shared_slice_known-then-bytes-ge8-1) → byte c.args.bytes.now 4 ≡ 2
+contact : (c : After-shared_slice_known-then-bytes-ge8-1) → byte c.args.bytes.now 4 ≡ 2
 contact c = sym c.byte-kind.ensures ∙ c.if-kind-eq2.true
 
 pub bounds-bytes-3 : goal.bounds-bytes-3
-bounds-bytes-3 c = omega (arith, long c)
+bounds-bytes-3 c = omega (arith, long (goal.at.bounds-bytes-3 c).After-shared_slice_known-then-kind-eq1-1)
 
 pub slice_bounds-put_telegram-count : goal.slice_bounds-put_telegram-count
-slice_bounds-put_telegram-count c = omega (arith, long c)
+slice_bounds-put_telegram-count c = omega (arith, long (goal.at.slice_bounds-put_telegram-count c).After-shared_slice_known-then-kind-eq1-1)
 
 pub slice_bounds-put_telegram-start : goal.slice_bounds-put_telegram-start
-slice_bounds-put_telegram-start c = omega (arith, long c)
+slice_bounds-put_telegram-start c = omega (arith, long (goal.at.slice_bounds-put_telegram-start c).After-shared_slice_known-then-kind-eq1-1)
 
 pub put_telegram-requires : goal.put_telegram-requires
 put_telegram-requires c =
-    let d = c.before.before in
-    omega (arith, ap length (line-telegram d.args.bytes.now (telegram d)))
+    let d = c in
+    omega (arith, ap length (line-telegram d.args.bytes.now (telegram (goal.at.put_telegram-requires c).After-shared_slice_known-then-kind-eq1-1)))
 
 pub returns-then-kind-eq1 : goal.returns-then-kind-eq1
-returns-then-kind-eq1 c = rw (line-telegram _ (telegram c.before.before.before.before.before)) c.put_telegram.ensures
+returns-then-kind-eq1 c = rw (line-telegram _ (telegram (goal.at.returns-then-kind-eq1 c).After-shared_slice_known-then-kind-eq1-1)) c.put_telegram.ensures
 
 pub put_contact-requires : goal.put_contact-requires
 put_contact-requires c =
-    let d = c.before.before.before.before in
-    omega (arith, ap length (line-contact d.args.bytes.now (contact d) d.if-bytes-ge8.true))
+    let d = c in
+    omega (arith, ap length (line-contact d.args.bytes.now (contact (goal.at.put_contact-requires c).After-shared_slice_known-then-bytes-ge8-1) d.if-bytes-ge8.true))
 
 pub returns-then-bytes-ge8 : goal.returns-then-bytes-ge8
 returns-then-bytes-ge8 c =
-    let d = c.before.before.before.before.before.before.before in
-    rw (line-contact _ (contact d) d.if-bytes-ge8.true) c.put_contact.ensures
+    let d = c in
+    rw (line-contact _ (contact (goal.at.returns-then-bytes-ge8 c).After-shared_slice_known-then-bytes-ge8-1) d.if-bytes-ge8.true) c.put_contact.ensures
 
 pub returns-else-bytes-ge8 : goal.returns-else-bytes-ge8
 returns-else-bytes-ge8 c = rw (line_other _ (λ e. c.if-kind-eq1.false (c.byte-kind.ensures ∙ e)) (inr c.if-bytes-ge8.false)) (puts_none _ _)

@@ -14,20 +14,20 @@ put_letter-first-requires c =
 
 pub put_item-second-requires : goal.put_item-second-requires
 put_item-second-requires c =
-    let first = c.before.before.before in
+    let first = c in
     let a = first.args in
     omega (arith, telegram-length a.desk a.telegram.now, first.put_letter-first.ensures.place)
 
 pub put_bytes-end-requires : goal.put_bytes-end-requires
 put_bytes-end-requires c =
-    let second = c.before.before.before in
+    let second = c in
     let first = second.before.before.before.before in
     let a = first.args in
     omega (arith, telegram-length a.desk a.telegram.now, first.put_letter-first.ensures.place, simp length-append at second.put_item-second.ensures.place)
 
 pub put_byte-requires : goal.put_byte-requires
 put_byte-requires c =
-    let third = c.before.before.before in
+    let third = c in
     let second = third.before.before.before.before in
     let first = second.before.before.before.before in
     let a = first.args in
@@ -35,7 +35,7 @@ put_byte-requires c =
 
 pub returns : goal.returns
 returns c =
-    let fourth = c.before.before in
+    let fourth = c in
     let third = fourth.before.before.before.before in
     let second = third.before.before.before.before in
     let first = second.before.before.before.before in

@@ -13,12 +13,12 @@ use Rattle.changes.proofs.lookup.linked.Goals as goal
 
 pub returns-then-i-lt4 : goal.returns-then-i-lt4
 returns-then-i-lt4 c =
-    let st = c.before.before.before in
+    let st = c in
     let n : length st.args.t1 ≡ 4 = search rules in
     ap (λ (k : Desk). set st.args.t1 st.args.d (linked (λ (l : Link). st.args.link) k)) (any_default st.args.t1 st.args.d _ no_desk (omega (arith, n, c.if-i-lt4.true)))
 
 pub returns : goal.returns
 returns c =
-    let st = c.before in
+    let st = c in
     let n : length st.args.t1 ≡ 4 = search rules in
     sym (set_out st.args.t1 st.args.d _ (omega (arith, n)))

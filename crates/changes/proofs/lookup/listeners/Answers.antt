@@ -15,7 +15,7 @@ none = record { code = 0; number = record { digits = 0 }; link = record { phase 
 
 pub returns : goal.returns
 returns c =
-    let st = c.before.before.before.before.before.before.before.before in
+    let st = c in
     let n : length st.args.t1 ≡ 4 = search rules in
     let ds = st.args.t1 in
     rw (c.place_if-a.ensures.0, c.place_if-b.ensures.0, c.place_if-c.ensures.0, c.place_if-d.ensures.0)

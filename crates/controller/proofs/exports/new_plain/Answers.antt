@@ -7,4 +7,4 @@ use borrow.Author.Rules.{rules}
 use Rattle.controller.proofs.exports.new_plain.Goals as goal
 
 pub returns : goal.returns
-returns c = c.plain_of_lem.ensures ∙ ap (plain_of layout_now) c.new-set.ensures
+returns c = c.plain_of.ensures ∙ ap (plain_of layout_now) c.new-set.ensures

@@ -20,7 +20,7 @@ kept p a = record { set = cond (eqb a.refusal 0) (plain_of p.layout a.set) p; co
 
 pub returns-then-a-ne0 : goal.returns-then-a-ne0
 returns-then-a-ne0 c =
-    let st = c.before.before.before.before.before.before.before.before.before in
+    let st = c in
     let p = st.args.plain in
     let e = st.args.entry.now in
     let b = st.args.buffer.now in
@@ -36,7 +36,7 @@ returns-then-a-ne0 c =
 
 pub returns : goal.returns
 returns c =
-    let st = c.before.before.before.before.before.before.before.before.before.before.before.before in
+    let st = c in
     let p = st.args.plain in
     let e = st.args.entry.now in
     let b = st.args.buffer.now in
@@ -45,7 +45,7 @@ returns c =
     let i = c.set_in-set.ensures in
     record {
       answer =
-          ap (λ (q : PlainSet). record { set = q; count = a.count; refusal = a.refusal }) c.plain_of_lem.ensures
+          ap (λ (q : PlainSet). record { set = q; count = a.count; refusal = a.refusal }) c.plain_of.ensures
           ∙ (ap (λ (t : Bool). record { set = cond t (plain_of p.layout a.set) p; count = a.count; refusal = a.refusal }) (sym (eq-eqb a.refusal 0 c.if-a-ne0.false))
           ∙ ap (kept p) (f.answer ∙ ap (λ (s : LineSet). answer_of (step_of s e (length b))) i));
       bytes = f.bytes ∙ ap (λ (s : LineSet). over (step_of s e (length b)).bytes b) i;

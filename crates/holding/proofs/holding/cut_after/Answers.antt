@@ -9,7 +9,7 @@ use Rattle.holding.proofs.holding.cut_after.Goals as goal
 pub returns : goal.returns
 unfolding cut
 returns c =
-    let c₄ = c.before.before.before.before in (
+    let c₄ = c in (
       refl,
       simp (send-by-send, heard_press_off, c₄.press_sends-off.ensures, c₄.set_of.ensures, sym c.end-end.ensures, c.freed-state.ensures) refl,
     )

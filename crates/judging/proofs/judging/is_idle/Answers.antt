@@ -5,4 +5,4 @@ use borrow.Author.Rules.{rules}
 use Rattle.judging.proofs.judging.is_idle.Goals as goal
 
 pub returns : goal.returns
-returns c = simp (c.is_held_lem.ensures, c.is_open.ensures, c.is_present.ensures) refl
+returns c = simp (c.is_held.ensures, c.is_open.ensures, c.is_present.ensures) refl

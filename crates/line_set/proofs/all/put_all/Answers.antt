@@ -18,7 +18,7 @@ loop-i-init c = (start _ _ _, omega arith)
 
 pub put_in-at-requires : goal.put_in-at-requires
 put_in-at-requires c =
-    let st = c.before.before.before.before.before.before.before in
+    let st = c in
     let s = st.args.t1 in
     let l = c.loop-i in
     let p = here s _ _ l.i _ st.well-formed.0.1.1.0.1.0.1 c.count_of-end.ensures.0 c.loop-i-test.true in
@@ -26,7 +26,7 @@ put_in-at-requires c =
 
 pub put_in-at-requires-in-loop-i : goal.put_in-at-requires-in-loop-i
 put_in-at-requires-in-loop-i c =
-    let st = c.before.before.before.before.before.before.before.before.before.before.before in
+    let st = c in
     let s = st.args.t1 in
     let l = c.loop-i in
     let p = here s _ _ l.i _ st.well-formed.0.1.1.0.1.0.1 c.count_of-end.ensures.0 c.loop-i-test.true in
@@ -35,7 +35,7 @@ put_in-at-requires-in-loop-i c =
 
 pub loop-i-preserved : goal.loop-i-preserved
 loop-i-preserved c =
-    let st = c.before.before.before.before.before.before.before.before.before.before.before.before.before.before in
+    let st = c in
     let s = st.args.t1 in
     let l = c.loop-i in
     let p = here s _ _ l.i _ st.well-formed.0.1.1.0.1.0.1 c.count_of-end.ensures.0 c.loop-i-test.true in
@@ -50,7 +50,7 @@ shape_of-buffer c = c.loop-i.invariant.0.same
 
 pub returns : goal.returns
 returns c =
-    let st = c.before.before.before.before.before in
+    let st = c in
     let s = st.args.t1 in
     let l = c.loop-i in
     let e = counted s.channels s.size.channels _ _ st.well-formed.0.1.1.0.1.0.1 c.count_of-end.ensures.0 in

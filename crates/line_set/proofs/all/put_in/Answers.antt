@@ -11,7 +11,7 @@ use Rattle.line_set.proofs.all.put_in.Goals as goal
 
 pub put-requires : goal.put-requires
 put-requires c =
-    let st = c.before.before.before.before in
+    let st = c in
     rw (same-records st.args.desks st.args.c.code _ _ c.moved-m.ensures.1) st.requires
 
 pub returns : goal.returns

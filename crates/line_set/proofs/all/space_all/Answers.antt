@@ -20,7 +20,7 @@ overflow_add-sum-in-loop-i c = omega (arith, c.loop-i.invariant.0.bound, c.space
 
 pub loop-i-preserved : goal.loop-i-preserved
 loop-i-preserved c =
-    let st = c.before.before.before.before.before.before.before in
+    let st = c in
     let s = st.args.t1 in
     let l = c.loop-i in
     let p = here s _ _ l.i _ st.well-formed.0.1.1.0.1.0.1 c.count_of-end.ensures.0 c.loop-i-test.true in (
@@ -31,7 +31,7 @@ loop-i-preserved c =
 pub returns : goal.returns
 unfolding on_handover
 returns c =
-    let st = c.before.before.before.before in
+    let st = c in
     let s = st.args.t1 in
     let l = c.loop-i in
     let e = counted s.channels s.size.channels _ _ st.well-formed.0.1.1.0.1.0.1 c.count_of-end.ensures.0 in

@@ -34,6 +34,7 @@ use Rattle.line_set.proofs.Turns.{At, here, sum-last}
 use Rattle.line_set.proofs.Ticking.{Scanned, scan_first, scan_rest, scan_silent, scan_due, Ticking, tick-first, tick-last, here-still, due-fits, turned, silent-turn, kept-turn}
 use borrow.Author.Rules.{rules}
 use Rattle.line_set.proofs.entry.step.Goals as goal
+use Rattle.line_set.proofs.entry.step.Goals.{After-loop-k, After-place_below-place, In-loop-i}
 
 -- ---- what every way through the code begins with: the entry is read, and the plan's channels are counted
 
@@ -71,19 +72,19 @@ slice_bounds-plan-start c =
 
 pub returns-then-set : goal.returns-then-set
 returns-then-set c =
-    let k = c.before.before.before in
+    let k = c in
     gives_as (plan_present (set_at k) (entry_at k) _ (read_at k) (length (buffer-at k)) c.if-x-eq7.true c.if-set.true) (left_as_was (set_at k) 5 (buffer-at k))
 
 pub returns-then-a-eq0 : goal.returns-then-a-eq0
 returns-then-a-eq0 c =
-    let k = c.before.before.before.before.before.before.before.before.before.before.before in
+    let k = c in
     let r = c.plan-a.result in
     settled_new (set_at k) r c.if-a-eq0.true
     (plan_taken (set_at k) (entry_at k) _ (read_at k) r c.if-x-eq7.true c.if-set.false (sym (part_to_end (entry_at k) 4)) c.plan-a.ensures)
 
 pub returns-else-a-eq0 : goal.returns-else-a-eq0
 returns-else-a-eq0 c =
-    let k = c.before.before.before.before.before.before.before.before.before.before in
+    let k = c in
     let r = c.plan-a.result in
     settled_old (set_at k) r c.if-a-eq0.false
     (plan_taken (set_at k) (entry_at k) _ (read_at k) r c.if-x-eq7.true c.if-set.false (sym (part_to_end (entry_at k) 4)) c.plan-a.ensures)
@@ -97,17 +98,17 @@ put_all-written-requires c κs =
 
 pub returns-then-buffer-need : goal.returns-then-buffer-need
 returns-then-buffer-need c =
-    let k = c.before.before.before.before.before.before in
+    let k = c in
     gives_as (handover_step (set_at k) (entry_at k) _ (read_at k) (length (buffer-at k)) c.if-set-x.true)
     (no_room (set_at k) (buffer-at k) (on_handover (set_at k)) (omega (arith, c.space_all-need.ensures, c.if-buffer-need.true)) (left_as_was (set_at k) 16 (buffer-at k)))
 
 pub returns-else-buffer-need : goal.returns-else-buffer-need
 unfolding on_handover
 returns-else-buffer-need c =
-    let k = c.before.before.before.before.before.before.before.before.before.before.before in
+    let k = c in
     let s = set_at k in
     gives_as (handover_step s (entry_at k) _ (read_at k) (length (buffer-at k)) c.if-set-x.true)
-    (put_first s (on_handover s) (buffer-at k) (omega (arith, c.space_all-need.ensures, c.if-buffer-need.false)) (even_handover s) c.put_all_lem.ensures c.new-new.ensures)
+    (put_first s (on_handover s) (buffer-at k) (omega (arith, c.space_all-need.ensures, c.if-buffer-need.false)) (even_handover s) c.put_all.ensures c.new-new.ensures)
 
 -- ---- a tick: the space
 
@@ -116,12 +117,12 @@ loop-k-init c = (scan_first _, omega arith)
 
 pub overflow_add-need : goal.overflow_add-need
 overflow_add-need c =
-    let t = c.before.before.before.before.before.before in
+    let t = c in
     omega (arith, t.loop-k.invariant.0.counted.bound, c.space_in-need.ensures.1, t.count_of-count.ensures.1, t.loop-k-test.true)
 
 pub loop-k-preserved : goal.loop-k-preserved
 loop-k-preserved c =
-    let k = c.before.before.before.before.before.before.before.before.before.before.before in
+    let k = c in
     let s = set_at k in
     let l = c.loop-k in
     let far : l.k + 1 ≤ k.count_of-count.result = omega (arith, c.loop-k-test.true) in
@@ -135,7 +136,7 @@ loop-k-preserved c =
       | inr a ↦ (scan_rest s l.k _ p m (sym c.may_fall.ensures ∙ a.0.left) a.1 a.2, far)
     ]
 
-total-is : (c : goal.After-loop-k) → c.loop-k.need ≡ space_of (on_tick (set_at c.before.before.before.before.before.before.before.before)).sent
+total-is : (c : After-loop-k) → c.loop-k.need ≡ space_of (on_tick (set_at c.before.before.before.before.before.before.before.before)).sent
 unfolding on_tick
 total-is c =
     let k = c.before.before.before.before.before.before.before.before in
@@ -144,16 +145,16 @@ total-is c =
 
 pub returns-then-buffer-need-2 : goal.returns-then-buffer-need-2
 returns-then-buffer-need-2 c =
-    let k = c.before.before.before.before.before.before.before.before.before in
+    let k = c in
     gives_as (tick-step (set_at k) (entry_at k) _ (read_at k) (length (buffer-at k)) c.if-set-x-2.true)
-    (no_room (set_at k) (buffer-at k) (on_tick (set_at k)) (omega (arith, total-is c.before, c.if-buffer-need-2.true)) (left_as_was (set_at k) 16 (buffer-at k)))
+    (no_room (set_at k) (buffer-at k) (on_tick (set_at k)) (omega (arith, total-is (goal.at.returns-then-buffer-need-2 c).After-loop-k, c.if-buffer-need-2.true)) (left_as_was (set_at k) 16 (buffer-at k)))
 
 -- ---- a tick: the records and the channels
 
 loop-i-init : goal.loop-i-init
 loop-i-init c = (tick-first (set_at c.before.before.before.before.before.before.before.before.before) (buffer-at c.before.before.before.before.before.before.before.before.before) (omega (arith, total-is c.before, c.if9.false)), omega arith, omega (arith, c.before.before.loop.invariant.0.low, c.before.before.loop.invariant.1))
 
-turn_at : (c : goal.In-loop-i) (z : Channel) → At (channels_of (set_at c.before.before.before.before.before.before.before.before.before.before.before)) c.loop-i.i (get_or c.loop-i.set.channels c.loop-i.i z)
+turn_at : (c : In-loop-i) (z : Channel) → At (channels_of (set_at c.before.before.before.before.before.before.before.before.before.before.before)) c.loop-i.i (get_or c.loop-i.set.channels c.loop-i.i z)
 turn_at c z =
     let k = c.before.before.before.before.before.before.before.before.before.before.before in
     let l = c.loop-i in
@@ -161,20 +162,20 @@ turn_at c z =
 
 pub put_in-written-requires : goal.put_in-written-requires
 put_in-written-requires c =
-    let k = c.before.before.before.before.before.before.before.before.before.before.before.before.before.before.before.before in
+    let k = c in
     let l = c.loop-i in
-    due-fits (set_at k) (buffer-at k) l.i _ (turn_at c.before.before.before.before.before _) l.invariant.0
+    due-fits (set_at k) (buffer-at k) l.i _ (turn_at (goal.at.put_in-written-requires c).In-loop-i _) l.invariant.0
 
 pub loop-i-preserved : goal.loop-i-preserved
 unfolding happens
 loop-i-preserved c =
-    let k = c.before.before.before.before.before.before.before.before.before.before.before.before.before.before in
+    let k = c in
     let s = set_at k in
     let b = buffer-at k in
     let l = c.loop-i in
     let m = l.invariant.0 in
     let far : l.i + 1 ≤ c.loop-k.end = omega (arith, c.loop-i-test.true) in
-    let p = turn_at c.before.before.before _ in
+    let p = turn_at (goal.at.loop-i-preserved c).In-loop-i _ in
     let falls = sym c.falls-falling.ensures in
     elim c.match-falling.branch [
       | inl a ↦ (kept-turn s b l.i _ p m (falls ∙ a.1.given.1) a.3 a.2 a.4, far, l.invariant.2)
@@ -195,7 +196,7 @@ shape_of-buffer-after-loop-i c = c.loop-i.invariant.0.bytes.same
 
 pub returns-after-loop-i : goal.returns-after-loop-i
 returns-after-loop-i c =
-    let k = c.before.before.before.before.before.before.before.before.before.before.before in
+    let k = c in
     let l = c.loop-i in
     let scan = c.loop-k in
     gives_as (tick-step (set_at k) (entry_at k) _ (read_at k) (length (buffer-at k)) c.if-set-x-2.true)
@@ -220,7 +221,7 @@ not_plan c = c.before.before.before.before.before.if1.false
 -- a refusal
 pub returns-in-Refusal : goal.returns-in-Refusal
 returns-in-Refusal c =
-    let a = c.before.before.before in
+    let a = c in
     let k = begun a in
     let s = set_at k in
     gives_as (refused_as s.planned s.desks s.size.desks s.channels s.size.channels (entry_at k) _ true no_channel _ (length (buffer-at k)) (asked_is a _ c.in-Refusal.is true no_channel (not_plan a)) ∙ as_step s (entry_at k) _ (read_at k) (length (buffer-at k)))
@@ -229,7 +230,7 @@ returns-in-Refusal c =
 -- a telegram about the desk's link
 pub returns-in-OfLink : goal.returns-in-OfLink
 returns-in-OfLink c =
-    let a = c.before.before.before.before.before.before.before.before in
+    let a = c in
     let k = begun a in
     let s = set_at k in
     gives_as (linked_as s.planned s.desks s.size.desks s.channels s.size.channels (entry_at k) _ true no_channel _ (length (buffer-at k)) (asked_is a _ c.in-OfLink.is true no_channel (not_plan a)) ∙ as_step s (entry_at k) _ (read_at k) (length (buffer-at k)))
@@ -249,7 +250,7 @@ loop-i-2-init c = (sought-first _ _, omega arith)
 pub loop-i-2-preserved : goal.loop-i-2-preserved
 loop-i-2-preserved c =
     let l = c.loop-i-2 in
-    let code = c.code_of_lem.result in
+    let code = c.code_of.result in
     let k = begun c.before.before.before.before.before.before.before.before.before in
     let far : l.i + 1 ≤ k.count_of.result = omega (arith, c.loop-i-2-test.true) in
     let p = channel-at k l.i _ c.loop-i-2-test.true in
@@ -260,16 +261,16 @@ sought c =
     let k = begun c.before.before.before.before.before.before in
     let cs = channels_of (set_at k) in
     let l = c.loop-i-2 in
-    let code = c.code_of_lem.result in
+    let code = c.code_of.result in
     let found : l.i ≡ place_of code cs = elim c.loop-i-2-test.branch [
       | inl a ↦ sought-last (by_code code) cs l.i (omega (arith, count-is k, a.left)) l.invariant.0
       | inr a ↦
           let p = channel-at k l.i _ a.0.taken in
           sought-found (by_code code) cs l.i no_channel p.within (ap (λ (x : Channel). eqb x.code code) p.is ∙ eq-eqb _ _ a.3.taken) l.invariant.0
     ] in
-    found ∙ ap (λ (i : ℕ). place_of i cs) c.code_of_lem.ensures
+    found ∙ ap (λ (i : ℕ). place_of i cs) c.code_of.ensures
 
-asked-at : (c : goal.After-place_below-place) (z : Channel)
+asked-at : (c : After-place_below-place) (z : Channel)
     → Asks (set_at (begun c.before.before.before.before.before.before.before)) (entry_at (begun c.before.before.before.before.before.before.before)) (begun c.before.before.before.before.before.before.before).before.before.read-entry.result (request_of c.before.before.before) c.place_below-place.result
     (ltb c.loop-i-2.i (begun c.before.before.before.before.before.before.before).count_of.result) (get_or (set_at (begun c.before.before.before.before.before.before.before)).channels c.place_below-place.result z)
 asked-at c z =
@@ -282,17 +283,17 @@ asked-at c z =
 
 pub returns-then-a-eq0-2 : goal.returns-then-a-eq0-2
 returns-then-a-eq0-2 c =
-    let place = c.before.before.before.before.before.before.before.before in
+    let place = c in
     let k = begun place.before.before.before.before.before.before.before in
     let s = set_at k in
     gives_as (as_step s (entry_at k) _ (read_at k) (length (buffer-at k)))
-    (c.change_of-a.ensures s.planned s.channels s.size.channels place.place_below-place.result (entry_at k) (asked-at place _))
+    (c.change_of-a.ensures s.planned s.channels s.size.channels place.place_below-place.result (entry_at k) (asked-at (goal.at.returns-then-a-eq0-2 c).After-place_below-place _))
 
 pub returns-else-a-eq0-2 : goal.returns-else-a-eq0-2
 returns-else-a-eq0-2 c =
-    let place = c.before.before.before.before.before.before.before in
+    let place = c in
     let k = begun place.before.before.before.before.before.before.before in
     let s = set_at k in
     kept s (entry_at k) (buffer-at k) c.if-a-eq0-2.false
     (gives_as (as_step s (entry_at k) _ (read_at k) (length (buffer-at k)))
-    (c.change_of-a.ensures s.planned s.channels s.size.channels place.place_below-place.result (entry_at k) (asked-at place _)))
+    (c.change_of-a.ensures s.planned s.channels s.size.channels place.place_below-place.result (entry_at k) (asked-at (goal.at.returns-else-a-eq0-2 c).After-place_below-place _)))

@@ -9,8 +9,8 @@ use Rattle.lines.proofs.rules.end_call.Goals as goal
 pub returns : goal.returns
 unfolding end_call
 returns c =
-    let c₃ = c.before.before.before in
+    let c₃ = c in
     let off = c₃.ring_off_sends-off.ensures in (
       c.new-next.ensures,
-      simp (send-by-send, sym off, heard-sent_if, sym c₃.end-end.ensures, c.freed-state.ensures, c.set_if-recipients.ensures, c₃.is_held_lem.ensures) refl,
+      simp (send-by-send, sym off, heard-sent_if, sym c₃.end-end.ensures, c.freed-state.ensures, c.set_if-recipients.ensures, c₃.is_held.ensures) refl,
     )

@@ -13,7 +13,7 @@ returns-then-channel-gt0 c = simp (lt-ltb _ _ c.if-channel-gt0.true) c.unanswere
 pub returns-then-channel-gt0-2 : goal.returns-then-channel-gt0-2
 unfolding run_out
 returns-then-channel-gt0-2 c =
-    let c₄ = c.before.before.before.before in (
+    let c₄ = c in (
       c.alone.ensures.0 ∙ c₄.run_out-next.ensures _,
       simp (le-ltb _ _ c₄.if-channel-gt0.false, lt-ltb _ _ c.if-channel-gt0-2.true) (c.alone.ensures.1 ∙ c.end-end.ensures),
     )
@@ -21,7 +21,7 @@ returns-then-channel-gt0-2 c =
 pub returns-else-channel-gt0-2 : goal.returns-else-channel-gt0-2
 unfolding run_out
 returns-else-channel-gt0-2 c =
-    let c₄ = c.before.before.before.before in (
+    let c₄ = c in (
       c.alone-else-channel-gt0-2.ensures.0 ∙ c₄.run_out-next.ensures _,
       simp (le-ltb _ _ c₄.if-channel-gt0.false, le-ltb _ _ c.if-channel-gt0-2.false) (rw c.freed-state.ensures at c.alone-else-channel-gt0-2.ensures.1),
     )

@@ -10,18 +10,19 @@ use borrow.Author.Tests.{ltb-true}
 use Rattle.laws.proofs.Tests.{both}
 use Rattle.numerals.proofs.DigitLaws.{spelt-join}
 use Rattle.numerals.proofs.digits.eight.Goals as goal
+use Rattle.numerals.proofs.digits.eight.Goals.{Then-high-low}
 
 -- both are below 10,000
-small : (c : goal.Then-high-low) → (c.four-high.result < 10000) × (c.four-low.result < 10000)
+small : (c : Then-high-low) → (c.four-high.result < 10000) × (c.four-low.result < 10000)
 small c =
     let t = both (ltb c.four-high.result 10000) (ltb c.four-low.result 10000) c.if-high-low.true in
     (ltb-true _ _ t.0, ltb-true _ _ t.1)
 
 pub overflow_mul-result : goal.overflow_mul-result
-overflow_mul-result c = let s = small c in omega arith
+overflow_mul-result c = let s = small (goal.at.overflow_mul-result c).Then-high-low in omega arith
 
 pub overflow_add-result : goal.overflow_add-result
-overflow_add-result c = let s = small c in omega arith
+overflow_add-result c = let s = small (goal.at.overflow_add-result c).Then-high-low in omega arith
 
 pub returns-then-high-low : goal.returns-then-high-low
 returns-then-high-low c =

@@ -14,6 +14,7 @@ use Rattle.numerals.specs.Digits.{all_digits, value_from, is_digit, digits_in}
 use Rattle.numerals.specs.declared.digits.Digits.TheVariants.{Malformed}
 use Rattle.numerals.proofs.DigitLaws.{digits_step, digits-stop, digits-done, digits-found, digits_long}
 use Rattle.numerals.proofs.digits.read_digits.Goals as goal
+use Rattle.numerals.proofs.digits.read_digits.Goals.{Else-b-gt57}
 
 pub returns-then-s-gt9 : goal.returns-then-s-gt9
 returns-then-s-gt9 c = sym (digits_long c.args.s.now c.if-s-gt9.true)
@@ -36,17 +37,17 @@ returns-then-b-gt57 c =
     sym (stop c.args.s.now l.i l.invariant.2 (search rules) (simp (le-leb _ _ c.if-b-lt48.false, lt-leb _ _ c.if-b-gt57.true)))
 
 -- at most eight digits have been passed
-small : (c : goal.Else-b-gt57) → c.loop-i.v < 10 ^ 8
+small : (c : Else-b-gt57) → c.loop-i.v < 10 ^ 8
 small c =
     let l = c.loop-i in
     let p : 10 ^ l.i ≤ 10 ^ 8 = pow-le-pow_right (omega arith) {i = l.i} {j = 8} (omega arith) in
     omega arith
 
 pub overflow_mul-v : goal.overflow_mul-v
-overflow_mul-v c = omega (arith, small c)
+overflow_mul-v c = omega (arith, small (goal.at.overflow_mul-v c).Else-b-gt57)
 
 pub overflow_add-v : goal.overflow_add-v
-overflow_add-v c = omega (arith, small c)
+overflow_add-v c = omega (arith, small (goal.at.overflow_add-v c).Else-b-gt57)
 
 pub loop-i-preserved : goal.loop-i-preserved
 loop-i-preserved c =

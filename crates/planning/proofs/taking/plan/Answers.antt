@@ -41,7 +41,7 @@ returns-then-not-p c =
       λ s e x h z k w.
           let b = c.args.buffer.now in
           let read = same ∙ ap plan_of (sym w) in
-          gives_as (plan_bad s e x (length b) z k h (sym (plan_ok_lem (plan_in e)) ∙ sym (ap (λ (p : Plan). p.ok) read) ∙ c.if-not-p.true)) (left_as_was s 6 b),
+          gives_as (plan_bad s e x (length b) z k h (sym (plan_ok_lem (plan_in e)) ∙ sym (ap (λ (p : Plan). p.ok) read) ∙ not-true _ c.if-not-p.true)) (left_as_was s 6 b),
     )
 
 pub returns-then-buffer-need : goal.returns-then-buffer-need
@@ -51,7 +51,7 @@ returns-then-buffer-need c =
       λ s e x h z k w.
           let b = c.args.buffer.now in
           let read = same ∙ ap plan_of (sym w) in
-          let ok : plan_ok (plan_in e) ≡ true = sym (plan_ok_lem (plan_in e)) ∙ sym (ap (λ (p : Plan). p.ok) read) ∙ c.if-not-p.false in
+          let ok : plan_ok (plan_in e) ≡ true = sym (plan_ok_lem (plan_in e)) ∙ sym (ap (λ (p : Plan). p.ok) read) ∙ not-false _ c.if-not-p.false in
           let t = ap (λ (p : Plan). p.set) read ∙ plan_set (plan_in e) ok in
           let m = c.first_desks-recipients.ensures ∙ ap (λ (y : LineSet). first_desks y.size.desks) t in
           let total : c.space_to-need.result ≡ space_of (on_plan (plan_in e)).sent = c.space_to-need.ensures.0 c.read_plan-p.result.set.desks ∙ ap₂ asked t m in
@@ -65,7 +65,7 @@ returns-else-buffer-need c =
       λ s e x h z k w.
           let b = c.args.buffer.now in
           let read = same ∙ ap plan_of (sym w) in
-          let ok : plan_ok (plan_in e) ≡ true = sym (plan_ok_lem (plan_in e)) ∙ sym (ap (λ (p : Plan). p.ok) read) ∙ c.if-not-p.false in
+          let ok : plan_ok (plan_in e) ≡ true = sym (plan_ok_lem (plan_in e)) ∙ sym (ap (λ (p : Plan). p.ok) read) ∙ not-false _ c.if-not-p.false in
           let t = ap (λ (p : Plan). p.set) read ∙ plan_set (plan_in e) ok in
           let m = c.first_desks-recipients.ensures ∙ ap (λ (y : LineSet). first_desks y.size.desks) t in
           let total : c.space_to-need.result ≡ space_of (on_plan (plan_in e)).sent = c.space_to-need.ensures.0 c.read_plan-p.result.set.desks ∙ ap₂ asked t m in

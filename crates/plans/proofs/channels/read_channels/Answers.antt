@@ -23,19 +23,19 @@ use Rattle.plans.proofs.channels.read_channels.Goals as goal
 
 pub loop-i-init : goal.loop-i-init
 loop-i-init c =
-    let st = c.before.before.before in
+    let st = c in
     let h : length (channels_in st.args.n st.args.s.now) ≤ 32 = rw length-channels (search rules) in
     (search rules, search rules, search rules, rw sub-zero, rw (sub-zero, c.new-filler.ensures) (filled_sets 32 no_channel (channels_in st.args.n st.args.s.now) h))
 
 pub returns-then-not-is_channel : goal.returns-then-not-is_channel
 unfolding channels_read
 returns-then-not-is_channel c =
-    let st = c.before.before.before.before.before.before.before.before.before.before in
+    let st = c in
     let l = c.loop-i in
     let s = st.args.s.now in
     let t : (between l.low 99 (get_or s l.at 0) && between 1 (first_desks st.args.desks) (get_or s (l.at + 1) 0)) ≡ false = rw c.first_desks-all.ensures at (sym c.is_channel.ensures ∙ c.if-not-is_channel.true) in
     let e : channels_ok st.args.n 0 st.args.desks s ≡ false = l.invariant.3 ∙ channels_ok_at st.args.n l.i (search rules) s l.at l.low st.args.desks ∙ rw t in
-    rw e c.no_channels_lem.ensures
+    rw e c.no_channels.ensures
 
 pub overflow_add-low : goal.overflow_add-low
 overflow_add-low c =
@@ -46,7 +46,7 @@ overflow_add-low c =
 
 pub loop-i-preserved : goal.loop-i-preserved
 loop-i-preserved c =
-    let st = c.before.before.before.before.before.before.before.before.before.before in
+    let st = c in
     let l = c.loop-i in
     let s = st.args.s.now in
     let h : l.i < st.args.n = search rules in
@@ -61,7 +61,7 @@ loop-i-preserved c =
 pub returns : goal.returns
 unfolding channels_read
 returns c =
-    let st = c.before.before.before.before.before in
+    let st = c in
     let l = c.loop-i in
     let d = channels_end st.args.n l.i (search rules) l.low st.args.desks (drop l.at st.args.s.now) in
     let a : filled 32 no_channel (channels_in st.args.n st.args.s.now) ≡ l.channels = l.invariant.4 ∙ rw d.1 in

@@ -35,7 +35,7 @@ enum_told-1 c = search rules
 
 pub returns-in_default : goal.returns-in_default
 returns-in_default c =
-    let st = c.before.before.before.before.before.before.before in
+    let st = c in
     let s = st.args.s.now in
     let k : leb (word s 0) 1023 ≡ true = rw c.word-code.ensures at (le-leb _ _ c.if-code-gt1023.false) in
     let d : all_digits (digits s) ≡ false = malformed_found (digits s) (eight s st.requires) (sym c.read_digits-d.ensures ∙ c.in_default.is) in

@@ -23,7 +23,7 @@ use Rattle.plans.proofs.desks.read_desks.Goals as goal
 
 pub loop-i-init : goal.loop-i-init
 loop-i-init c =
-    let st = c.before.before in
+    let st = c in
     let h : length (desks_in st.args.n st.args.s.now) ≤ 4 = rw length-desks (search rules) in
     (search rules, search rules, search rules, rw sub-zero, rw (sub-zero, c.none-filler.ensures) (filled_sets 4 no_desk (desks_in st.args.n st.args.s.now) h))
 
@@ -33,16 +33,16 @@ enum_told-1 c = search rules
 pub returns-in_default : goal.returns-in_default
 unfolding desks_read
 returns-in_default c =
-    let st = c.before.before.before.before.before.before.before.before.before in
+    let st = c in
     let l = c.loop-i in
     let s = st.args.s.now in
     let d : desk_in (drop l.at s) ≡ Bad = rw (part_to_end s l.at) at (sym c.read_desk-d.ensures ∙ c.in_default.is) in
     let e : desks_ok st.args.n s ≡ false = l.invariant.3 ∙ desks_ok_at st.args.n l.i (search rules) s l.at ∙ rw (desk_bad (drop l.at s) d) in
-    rw e c.no_desks_lem.ensures
+    rw e c.no_desks.ensures
 
 pub loop-i-preserved : goal.loop-i-preserved
 loop-i-preserved c =
-    let st = c.before.before.before.before.before.before.before.before.before in
+    let st = c in
     let l = c.loop-i in
     let s = st.args.s.now in
     let k = c.in-Is.desk in
@@ -59,7 +59,7 @@ loop-i-preserved c =
 pub returns : goal.returns
 unfolding desks_read
 returns c =
-    let st = c.before.before.before.before in
+    let st = c in
     let l = c.loop-i in
     let d = desks_end st.args.n l.i (search rules) (drop l.at st.args.s.now) in
     let a : filled 4 no_desk (desks_in st.args.n st.args.s.now) ≡ l.desks = l.invariant.4 ∙ rw d.1 in

@@ -17,7 +17,7 @@ loop-k-init c = (start _ _ _, omega arith)
 pub put_send-p-requires : goal.put_send-p-requires
 put_send-p-requires c =
     let l = c.loop-k in
-    let st = c.before.before.before.before.before in
+    let st = c in
     let n : length st.args.t5 ≡ 7 = search rules in
     room l.invariant.0 (send_turn _ _ _ l.k _ (omega (arith, n))) st.requires
 

@@ -21,7 +21,7 @@ loop-m-init c = (rw records-one (start _ _ _), refl, search rules)
 pub put_one-p-requires : goal.put_one-p-requires
 put_one-p-requires c =
     let l = c.loop-m in
-    let st = c.before.before.before.before.before in
+    let st = c in
     let turn = each_turn st.args.desks l.d l.m st.args.recipients st.args.body (place-left l.d l.m c.loop-m-test.true l.invariant.2).0 l.invariant.1 in
     (st.requires.0, st.requires.1, room l.invariant.0 turn st.requires.2)
 

@@ -11,23 +11,24 @@ use Rattle.records.proofs.Writing.{start, all_put, part-back}
 use Rattle.records.proofs.RecordLaws.{one-taken, one_left}
 use borrow.Author.Rules.{rules}
 use Rattle.records.proofs.writer.put_one.Goals as goal
+use Rattle.records.proofs.writer.put_one.Goals.{Then-m-eq1}
 
-fits : (c : goal.Then-m-eq1)
+fits : (c : Then-m-eq1)
     → let a = c.args in a.at + length (record_for a.desks a.d (body_for a.d (own_of a.desks a.d) a.body)) ≤ length a.buffer.now
 fits c = rw (one-taken _ _ _ _ c.if-m-eq1.true) at c.requires.2
 
 pub put_record-requires : goal.put_record-requires
-put_record-requires c = let st = c.before.before.before.before in (st.requires.0, st.requires.1, simp (length-take, length-drop) (omega (arith, fits c.before)))
+put_record-requires c = let st = c in (st.requires.0, st.requires.1, simp (length-take, length-drop) (omega (arith, fits (goal.at.put_record-requires c).Then-m-eq1)))
 
 pub overflow_add-result : goal.overflow_add-result
-overflow_add-result c = omega (arith, fits c.before.before.before.before, c.put_record.ensures.0)
+overflow_add-result c = omega (arith, fits (goal.at.overflow_add-result c).Then-m-eq1, c.put_record.ensures.0)
 
 pub returns-then-m-eq1 : goal.returns-then-m-eq1
 returns-then-m-eq1 c =
     let e = c.put_record.ensures in
     let taken = c.if-m-eq1.true in
     let at = c.args.at in
-    (rw (one-taken _ _ _ _ taken) (ap (λ (n : ℕ). at + n) e.0), rw (one-taken _ _ _ _ taken) (part-back _ _ _ _ (fits c.before.before.before.before) e.1))
+    (rw (one-taken _ _ _ _ taken) (ap (λ (n : ℕ). at + n) e.0), rw (one-taken _ _ _ _ taken) (part-back _ _ _ _ (fits (goal.at.returns-then-m-eq1 c).Then-m-eq1) e.1))
 
 pub returns : goal.returns
 returns c = all_put (start _ _ _) (one_left _ _ _ _ c.if-m-eq1.false)

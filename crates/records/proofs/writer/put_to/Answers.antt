@@ -7,6 +7,6 @@ use Rattle.records.proofs.writer.put_to.Goals as goal
 
 pub put_each-requires : goal.put_each-requires
 put_each-requires c =
-    let st = c.before.before.before.before.before.before in
+    let st = c in
     let e = c.shape_of-shape.ensures in
     (e, no_form st.args.body (sym e ∙ c.in-Contact.is), st.requires)

@@ -48,7 +48,7 @@ slice_bounds-read_request-start c = c.telegram_start-start.ensures.1
 pub returns-then-x-eq1 : goal.returns-then-x-eq1
 unfolding asked_of first_of
 returns-then-x-eq1 c = λ found d k.
-    let c₃ = c.before.before.before in
+    let c₃ = c in
     let c₇ = c₃.before.before.before.before in
     let c₁₂ = c₇.before.before.before.before.before in
     let a = c₁₂.args in
@@ -59,7 +59,7 @@ returns-then-x-eq1 c = λ found d k.
     let one : a.x.kind ≡ 1 = c₃.if-x-eq1.true in
     let there = desk_there true a.n a.x.desk (rw one at c₇.if-from_desk-n.false) in
     rw (eq-eqb _ _ c₁₂.if-x-ne0.false, not-false a.planned c₁₂.if-not-planned.false, one, there)
-    (c.in_phase_lem.ensures
+    (c.in_phase.ensures
     ∙ ap₂ (λ (j : Desk) (q : Asked). in_phase j.link.phase q) desk
     (c.read_request-asked.ensures ∙ ap₂ (λ (j : Desk) (l : List ℕ). telegram_asked a.x.desk j.code (read_telegram l)) desk whole)
     ∙ telegram_form a.x.desk k.code k.link.phase (read_telegram (drop 5 e)))
@@ -68,7 +68,7 @@ returns-then-x-eq1 c = λ found d k.
 pub returns-then-from_desk-desk : goal.returns-then-from_desk-desk
 unfolding asked_of first_of
 returns-then-from_desk-desk c = λ found d k.
-    let c₄ = c.before.before.before.before in
+    let c₄ = c in
     let c₁₀ = c₄.before.before.before.before.before.before in
     let a = c₁₀.args in
     let t = both (from_desk a.x) _ c.if-from_desk-desk.true in
@@ -79,7 +79,7 @@ returns-then-from_desk-desk c = λ found d k.
 pub returns : goal.returns
 unfolding asked_of first_of
 returns c = λ found d k.
-    let c₇ = c.before.before.before.before.before.before.before in
+    let c₇ = c in
     let c₁₃ = c₇.before.before.before.before.before.before in
     let a = c₁₃.args in
     let other = ne_eqb _ _ c.if-x-eq1.false in

@@ -10,7 +10,7 @@ loop-left-init c = (refl, omega arith, rw (eq-eqb c.args.rounds c.args.rounds re
 pub loop-left-preserved : goal.loop-left-preserved
 loop-left-preserved c =
     let l = c.loop-left in
-    let st = c.before.before.before.before.before.before.before.before in (
+    let st = c in (
       c.step_all-last.auto.1.0 ∙ l.invariant.0,
       omega arith,
       rw (ne_eqb (l.left - 1) st.args.rounds (λ z. omega arith)) (c.step_all-last.ensures ∙ ap (λ (n : ℕ). round_of n st.args.feed.now) l.invariant.0),

@@ -11,13 +11,13 @@ put_item-first-requires c = omega (arith, twenty c.args.round.entries c.well-for
 
 pub put_item-second-requires : goal.put_item-second-requires
 put_item-second-requires c =
-    let st = c.before.before.before.before.before.before in
+    let st = c in
     let first = c.put_item-first.ensures in
     omega (arith, first.place, puts-length first, length-append (decimal st.args.round.entries) (32 ∷ []), twenty st.args.round.entries st.well-formed.0.1.1.0.1, twenty st.args.round.accepted st.well-formed.0.1.1.1.0.1)
 
 pub put_item-requires : goal.put_item-requires
 put_item-requires c =
-    let st = c.before.before.before.before.before.before.before.before.before.before in
+    let st = c in
     let first = c.put_item-first.ensures in
     let second = c.put_item-second.ensures in
     omega (arith, first.place, puts-length first, length-append (decimal st.args.round.entries) (32 ∷ []), second.place, puts-length second, length-append (decimal st.args.round.accepted) (32 ∷ []), twenty st.args.round.entries st.well-formed.0.1.1.0.1, twenty st.args.round.accepted st.well-formed.0.1.1.1.0.1, twenty st.args.round.bytes st.well-formed.0.1.1.1.1.0.1)

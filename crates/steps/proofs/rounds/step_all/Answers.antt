@@ -28,7 +28,7 @@ loop-read-smaller c =
 
 pub loop-read-preserved : goal.loop-read-preserved
 loop-read-preserved c =
-    let st = c.before.before.before.before.before.before.before.before.before.before.before.before.before.before.before.before.before.before in
+    let st = c in
     let l = c.loop-read in
     let z = size_of st.args.feed.now l.read c.frame_size.result (omega arith) c.frame_size.ensures in (
       z.within,
@@ -53,7 +53,7 @@ shape_of-buffer-then-answer-eq1 c = c.step-answer.auto.1.1.0 ∙ c.loop-read.inv
 
 pub returns-then-answer-eq1 : goal.returns-then-answer-eq1
 returns-then-answer-eq1 c =
-    let st = c.before.before.before.before.before.before.before.before.before.before.before.before.before.before.before.before.before.before in
+    let st = c in
     let l = c.loop-read in
     let z = size_of st.args.feed.now l.read c.frame_size.result (omega arith) c.frame_size.ensures in
     stopped (length st.args.buffer.now) st.args.feed.now l.set (record { entries = l.entries; accepted = l.accepted; bytes = l.bytes }) l.read c.frame_size.result c.loop-read-test.true z l.invariant.4

@@ -25,7 +25,7 @@ pub returns-then-size-eq0 : goal.returns-then-size-eq0
 returns-then-size-eq0 c =
     let a = c.args in
     let f = c.fill in
-    reads_none a.input.now a.at c.requires.0 a.most _ _ _ c.move-to-front.ensures f.ensures.0 _ _ (sym c.frame_size-size.ensures ∙ omega arith) (λ e. f.ensures.1 e c.if1.false) c.at_end_lem.ensures
+    reads_none a.input.now a.at c.requires.0 a.most _ _ _ c.move-to-front.ensures f.ensures.0 _ _ (sym c.frame_size-size.ensures ∙ omega arith) (λ e. f.ensures.1 e c.if1.false) c.at_end.ensures
 
 pub returns : goal.returns
 returns c =

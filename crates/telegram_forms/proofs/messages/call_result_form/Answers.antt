@@ -6,5 +6,5 @@ use Rattle.telegram_forms.proofs.messages.call_result_form.Goals as goal
 
 pub returns : goal.returns
 returns c =
-    let k = c.before.before.before in
+    let k = c in
     rw (c.eight.ensures, c.one-t-3.ensures, c.one-t-2.ensures) (rw (k.one-t.ensures, k.three-t.ensures, k.header-t.ensures) (put_form _))

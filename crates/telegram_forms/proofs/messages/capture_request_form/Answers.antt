@@ -6,6 +6,6 @@ use Rattle.telegram_forms.proofs.messages.capture_request_form.Goals as goal
 
 pub returns : goal.returns
 returns c =
-    let k = c.before.before.before.before in
+    let k = c in
     rw (c.one.ensures, c.eight-t.ensures, c.one-t.ensures, c.three-t.ensures)
     (rw k.header-t.ensures (put_form _))

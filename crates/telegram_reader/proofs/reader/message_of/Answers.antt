@@ -6,13 +6,13 @@ use Rattle.telegram_reader.proofs.StepLaws.{unlisted}
 use Rattle.telegram_reader.proofs.reader.message_of.Goals as goal
 
 pub returns-in-550411 : goal.returns-in-550411
-returns-in-550411 c = rw c.in-550411.is c.time_notice_lem.ensures
+returns-in-550411 c = rw c.in-550411.is c.time_notice.ensures
 
 pub returns-in-550419 : goal.returns-in-550419
 returns-in-550419 c = rw c.in-550419.is c.ring_answer.ensures
 
 pub returns-in-550421 : goal.returns-in-550421
-returns-in-550421 c = rw c.in-550421.is c.operation_answer_lem.ensures
+returns-in-550421 c = rw c.in-550421.is c.operation_answer.ensures
 
 pub returns-in-550461 : goal.returns-in-550461
 returns-in-550461 c = rw c.in-550461.is
@@ -21,7 +21,7 @@ pub returns-in-550464 : goal.returns-in-550464
 returns-in-550464 c = rw c.in-550464.is c.base_arrival.ensures
 
 pub returns-in-550468 : goal.returns-in-550468
-returns-in-550468 c = rw c.in-550468.is c.ring_notice_lem.ensures
+returns-in-550468 c = rw c.in-550468.is c.ring_notice.ensures
 
 pub returns-in-550469 : goal.returns-in-550469
 returns-in-550469 c = rw c.in-550469.is c.answer_reply.ensures
@@ -33,10 +33,10 @@ pub returns-in-550473 : goal.returns-in-550473
 returns-in-550473 c = rw c.in-550473.is c.call.ensures
 
 pub returns-in-550477 : goal.returns-in-550477
-returns-in-550477 c = rw c.in-550477.is c.caller_notice_lem.ensures
+returns-in-550477 c = rw c.in-550477.is c.caller_notice.ensures
 
 pub returns-in-550480 : goal.returns-in-550480
-returns-in-550480 c = rw c.in-550480.is c.call_result_lem.ensures
+returns-in-550480 c = rw c.in-550480.is c.call_result.ensures
 
 pub returns-in-550600 : goal.returns-in-550600
 returns-in-550600 c = rw c.in-550600.is c.capture_request.ensures

@@ -16,9 +16,10 @@ use Rattle.fields.proofs.Kept.{fields-spelt}
 use Rattle.telegram.specs.Telegram.{capture_request}
 use Rattle.telegram_reader.proofs.StepLaws.{by_bytes}
 use Rattle.telegram_reader.proofs.reader.read_capture_request.Goals as goal
+use Rattle.telegram_reader.proofs.reader.read_capture_request.Goals.{After-in_range-4}
 
 -- the numbers are what the bytes of the fields spell
-numbers_are : (c : goal.After-in_range-4) → as_numbers capture_request.body c.args.b.now
+numbers_are : (c : After-in_range-4) → as_numbers capture_request.body c.args.b.now
     ≡ c.four-channel.result
     ∷ c.four-len.result
     ∷ c.eight-number.result
@@ -36,7 +37,7 @@ pub returns-then-b-ne13 : goal.returns-then-b-ne13
 returns-then-b-ne13 c = c.no_fields.ensures ∙ sym (fields-spelt (23 ∷ 71 ∷ 8 ∷ 81 ∷ []) _ (lit≤ tt) ∙ rw (ne_eqb _ 13 c.if-b-ne13.true))
 
 -- what is read, by the answers on the four ranges
-told : (c : goal.After-in_range-4) → fields_in capture_request.body c.args.b.now
+told : (c : After-in_range-4) → fields_in capture_request.body c.args.b.now
     ≡ cond (c.in_range.result && c.in_range-2.result && c.in_range-3.result && c.in_range-4.result)
     (record {
       ok = true;
@@ -52,7 +53,7 @@ told c =
     fields-spelt (23 ∷ 71 ∷ 8 ∷ 81 ∷ []) b (lit≤ tt) ∙ rw (eq-eqb (length b) 13 e, numbers_are c, c.in_range.ensures, c.in_range-2.ensures, c.in_range-3.ensures, c.in_range-4.ensures) (simp (and_assoc, and-true))
 
 pub returns-then-in_range : goal.returns-then-in_range
-returns-then-in_range c = sym (told c.before ∙ rw c.if-in_range.true)
+returns-then-in_range c = sym (told (goal.at.returns-then-in_range c).After-in_range-4 ∙ rw c.if-in_range.true)
 
 pub returns-else-in_range : goal.returns-else-in_range
-returns-else-in_range c = c.no_fields-else-in_range.ensures ∙ sym (told c.before.before ∙ rw c.if-in_range.false)
+returns-else-in_range c = c.no_fields-else-in_range.ensures ∙ sym (told (goal.at.returns-else-in_range c).After-in_range-4 ∙ rw c.if-in_range.false)

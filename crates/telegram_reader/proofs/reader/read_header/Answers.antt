@@ -27,13 +27,13 @@ returns-then-s-ne86 c = simp (le-leb _ _ c.if-s-lt16.false, eq-eqb _ _ c.if-s-ne
 pub returns-then-not-f : goal.returns-then-not-f
 unfolding header_ok
 returns-then-not-f c =
-    let f = fields-none (length4 ∷ code ∷ []) _ _ c.read_heading-f.ensures (lit≤ tt) (c.if-not-f.true) in
+    let f = fields-none (length4 ∷ code ∷ []) _ _ c.read_heading-f.ensures (lit≤ tt) (not-true _ c.if-not-f.true) in
     simp (le-leb _ _ c.if-s-lt16.false, eq-eqb _ _ c.if-s-ne68.false, eq-eqb _ _ c.if-s-ne86.false, f)
 
 pub returns-then-v-s : goal.returns-then-v-s
 unfolding header_ok values_in
 returns-then-v-s c =
-    let f = fields-found (length4 ∷ code ∷ []) _ _ c.read_heading-f.ensures (c.if-not-f.false) in
+    let f = fields-found (length4 ∷ code ∷ []) _ _ c.read_heading-f.ensures (not-false _ c.if-not-f.false) in
     let s = c.args.s.now in
     let v : nth c.read_heading-f.result.values 0 ≡ nth (heading s) 0 = rw f.1 in
     let n : eqb (nth (heading s) 0) (length s) ≡ false = ne_eqb _ _ (λ q. c.if-v-s.true (v ∙ q)) in
@@ -42,7 +42,7 @@ returns-then-v-s c =
 pub returns : goal.returns
 unfolding header_ok values_in
 returns c =
-    let f = fields-found (length4 ∷ code ∷ []) _ _ c.read_heading-f.ensures (c.if-not-f.false) in
+    let f = fields-found (length4 ∷ code ∷ []) _ _ c.read_heading-f.ensures (not-false _ c.if-not-f.false) in
     let s = c.args.s.now in
     let v : nth c.read_heading-f.result.values 0 ≡ nth (heading s) 0 = rw f.1 in
     let n : eqb (nth (heading s) 0) (length s) ≡ true = eq-eqb _ _ (sym v ∙ c.if-v-s.false) in

@@ -15,9 +15,10 @@ use Rattle.fields.specs.Held.{padded, no_fields, fields_in}
 use Rattle.fields.proofs.Kept.{fields-spelt}
 use Rattle.telegram_reader.proofs.StepLaws.{by_bytes}
 use Rattle.telegram_reader.proofs.reader.read_heading.Goals as goal
+use Rattle.telegram_reader.proofs.reader.read_heading.Goals.{After-in_range-2}
 
 -- the numbers are what the bytes of the fields spell
-numbers_are : (c : goal.After-in_range-2) → as_numbers (length4 ∷ code ∷ []) c.args.s.now
+numbers_are : (c : After-in_range-2) → as_numbers (length4 ∷ code ∷ []) c.args.s.now
     ≡ c.four-n.result
     ∷ c.four-code.result ∷ []
 unfolding tab as_numbers all_digits value_from
@@ -31,7 +32,7 @@ pub returns-then-s-ne8 : goal.returns-then-s-ne8
 returns-then-s-ne8 c = c.no_fields.ensures ∙ sym (fields-spelt (4 ∷ 14 ∷ []) _ (lit≤ tt) ∙ rw (ne_eqb _ 8 c.if-s-ne8.true))
 
 -- what is read, by the answers on the ranges
-told : (c : goal.After-in_range-2) → fields_in (length4 ∷ code ∷ []) c.args.s.now
+told : (c : After-in_range-2) → fields_in (length4 ∷ code ∷ []) c.args.s.now
     ≡ cond (c.in_range.result && c.in_range-2.result) (record { ok = true; values = padded (c.four-n.result ∷ c.four-code.result ∷ []) }) no_fields
 unfolding all_in
 told c =
@@ -40,7 +41,7 @@ told c =
     fields-spelt (4 ∷ 14 ∷ []) b (lit≤ tt) ∙ rw (eq-eqb (length b) 8 e, numbers_are c, c.in_range.ensures, c.in_range-2.ensures) (simp (and_assoc, and-true))
 
 pub returns-then-in_range : goal.returns-then-in_range
-returns-then-in_range c = sym (told c.before ∙ rw c.if-in_range.true)
+returns-then-in_range c = sym (told (goal.at.returns-then-in_range c).After-in_range-2 ∙ rw c.if-in_range.true)
 
 pub returns-else-in_range : goal.returns-else-in_range
-returns-else-in_range c = c.no_fields-else-in_range.ensures ∙ sym (told c.before.before ∙ rw c.if-in_range.false)
+returns-else-in_range c = c.no_fields-else-in_range.ensures ∙ sym (told (goal.at.returns-else-in_range c).After-in_range-2 ∙ rw c.if-in_range.false)

@@ -14,8 +14,9 @@ use Rattle.numerals.specs.declared.digits.Digits.TheVariants.{Value, Malformed}
 use Rattle.numerals.proofs.Kept.{digits-spelt}
 use Rattle.telegram_reader.proofs.StepLaws.{byte_by_byte}
 use Rattle.telegram_reader.proofs.reader.read_identifier.Goals as goal
+use Rattle.telegram_reader.proofs.reader.read_identifier.Goals.{After-eight-v}
 
-told : (c : goal.After-eight-v) → digits_in c.args.s.now ≡ cond (ltb c.eight-v.result 1000000) (Value c.eight-v.result) Malformed
+told : (c : After-eight-v) → digits_in c.args.s.now ≡ cond (ltb c.eight-v.result 1000000) (Value c.eight-v.result) Malformed
 unfolding tab all_digits value_from
 told c =
     let b = c.args.s.now in
@@ -24,7 +25,7 @@ told c =
     digits-spelt b (omega arith) ∙ rw (v, e)
 
 pub returns-then-v-lt1000000 : goal.returns-then-v-lt1000000
-returns-then-v-lt1000000 c = sym (told c.before ∙ rw (lt-ltb _ _ c.if-v-lt1000000.true))
+returns-then-v-lt1000000 c = sym (told (goal.at.returns-then-v-lt1000000 c).After-eight-v ∙ rw (lt-ltb _ _ c.if-v-lt1000000.true))
 
 pub returns-else-v-lt1000000 : goal.returns-else-v-lt1000000
-returns-else-v-lt1000000 c = sym (told c.before ∙ rw (le-ltb _ _ c.if-v-lt1000000.false))
+returns-else-v-lt1000000 c = sym (told (goal.at.returns-else-v-lt1000000 c).After-eight-v ∙ rw (le-ltb _ _ c.if-v-lt1000000.false))

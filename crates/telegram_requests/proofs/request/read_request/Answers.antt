@@ -9,7 +9,7 @@ use Rattle.telegram_requests.proofs.request.read_request.Goals as goal
 
 pub returns-in_default : goal.returns-in_default
 returns-in_default c =
-    let st = c.before.before.before.before.before in
+    let st = c in
     c.unread_request.ensures _ _ _ st.args.d c.in_default.is ∙ ap (λ (r : Reading). telegram_asked st.args.d st.args.code r) c.read-reading.ensures
 
 pub returns-then-seen-code : goal.returns-then-seen-code

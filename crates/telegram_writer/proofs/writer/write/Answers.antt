@@ -22,7 +22,7 @@ returns-then-not-in_range c =
 pub returns-then-buffer-size : goal.returns-then-buffer-size
 unfolding write_answer write_into
 returns-then-buffer-size c =
-    let k = c.before.before.before in
+    let k = c in
     let g = k.args in
     let o = le-leb _ _ k.if-code-gt1023.false in
     let a = sym k.in_range.ensures ∙ c.if-not-in_range.false in
@@ -35,7 +35,7 @@ put-requires c = omega (arith, c.size.ensures)
 pub returns : goal.returns
 unfolding write_answer write_into
 returns c =
-    let l = c.before.before.before.before.before in
+    let l = c in
     let k = l.before.before in
     let g = k.args in
     let o = le-leb _ _ k.if-code-gt1023.false in

@@ -5,4 +5,4 @@ use mathlib.Core.Path.{refl}
 use Rattle.timers.proofs.timers.may_fall.Goals as goal
 
 pub returns : goal.returns
-returns c = rw c.is_held_lem.ensures refl
+returns c = rw c.is_held.ensures refl
