@@ -42,9 +42,9 @@ pub put_records-requires-2 : goal.put_records-requires-2
 put_records-requires-2 c =
     let d = c in
     let a = d.args in
-    omega (arith, d.put-entry.ensures.place, answer-length a.number a.refusal a.count (take a.count a.buffer.now))
+    omega (arith, d.put_entry-place.ensures.place, answer-length a.number a.refusal a.count (take a.count a.buffer.now))
 
 pub returns : goal.returns
 returns c =
     let d = c in
-    rw answer-parts (also d.put-entry.ensures c.put_records-2.ensures)
+    rw answer-parts (also d.put_entry-place.ensures c.put_records-2.ensures)

@@ -25,7 +25,7 @@ overflow_add-sum c = omega (arith, c.space_of-sum.ensures.1)
 pub loop-k-preserved : goal.loop-k-preserved
 loop-k-preserved c =
     let l = c.loop-k in
-    let ss = c.args.t1 in
+    let ss = c.args.sends in
     let n : length ss ≡ 7 = search rules in
     let h : l.k < length ss = omega (arith, n) in
     (λ ds ch. space-next ds ch ss l.k _ l.sum h (l.invariant.0 ds ch) c.notice_size.ensures.0 c.space_of-sum.ensures.0, omega (arith, c.space_of-sum.ensures.1), omega arith)
@@ -33,7 +33,7 @@ loop-k-preserved c =
 pub returns : goal.returns
 returns c =
     let l = c.loop-k in
-    let ss = c.args.t1 in
+    let ss = c.args.sends in
     let n : length ss ≡ 7 = search rules in
     let h : length ss ≤ l.k = omega (arith, n) in
     (λ ds ch. omega (arith, l.invariant.0 ds ch, space_end ds ch ss l.k h), omega arith)

@@ -14,11 +14,11 @@ use Rattle.changes.proofs.lookup.linked.Goals as goal
 pub returns-then-i-lt4 : goal.returns-then-i-lt4
 returns-then-i-lt4 c =
     let st = c in
-    let n : length st.args.t1 ≡ 4 = search rules in
-    ap (λ (k : Desk). set st.args.t1 st.args.d (linked (λ (l : Link). st.args.link) k)) (any_default st.args.t1 st.args.d _ no_desk (omega (arith, n, c.if-i-lt4.true)))
+    let n : length st.args.desks ≡ 4 = search rules in
+    ap (λ (k : Desk). set st.args.desks st.args.d (linked (λ (l : Link). st.args.link) k)) (any_default st.args.desks st.args.d _ no_desk (omega (arith, n, c.if-i-lt4.true)))
 
 pub returns : goal.returns
 returns c =
     let st = c in
-    let n : length st.args.t1 ≡ 4 = search rules in
-    sym (set_out st.args.t1 st.args.d _ (omega (arith, n)))
+    let n : length st.args.desks ≡ 4 = search rules in
+    sym (set_out st.args.desks st.args.d _ (omega (arith, n)))

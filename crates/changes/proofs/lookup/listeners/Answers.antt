@@ -16,8 +16,8 @@ none = record { code = 0; number = record { digits = 0 }; link = record { phase 
 pub returns : goal.returns
 returns c =
     let st = c in
-    let n : length st.args.t1 ≡ 4 = search rules in
-    let ds = st.args.t1 in
+    let n : length st.args.desks ≡ 4 = search rules in
+    let ds = st.args.desks in
     rw (c.place_if-a.ensures.0, c.place_if-b.ensures.0, c.place_if-c.ensures.0, c.place_if-d.ensures.0)
     (shares (get_or ds 0 none) (get_or ds 1 none) (get_or ds 2 none) (get_or ds 3 none) st.args.n st.args.entitled
     ∙ ap (λ (l : List Desk). running_from 0 st.args.entitled (take st.args.n l)) (sym (four ds none n)))

@@ -19,7 +19,7 @@ loop-i-init c = (start _ _ _, omega arith)
 pub put_in-at-requires : goal.put_in-at-requires
 put_in-at-requires c =
     let st = c in
-    let s = st.args.t1 in
+    let s = st.args.set in
     let l = c.loop-i in
     let p = here s _ _ l.i _ st.well-formed.0.1.1.0.1.0.1 c.count_of-end.ensures.0 c.loop-i-test.true in
     room l.invariant.0 (talk-turn s.desks s.size.desks (channels_of s) l.i _ p) (omega (arith, st.requires))
@@ -27,7 +27,7 @@ put_in-at-requires c =
 pub put_in-at-requires-in-loop-i : goal.put_in-at-requires-in-loop-i
 put_in-at-requires-in-loop-i c =
     let st = c in
-    let s = st.args.t1 in
+    let s = st.args.set in
     let l = c.loop-i in
     let p = here s _ _ l.i _ st.well-formed.0.1.1.0.1.0.1 c.count_of-end.ensures.0 c.loop-i-test.true in
     let talk = c.put_in-at.ensures in
@@ -36,7 +36,7 @@ put_in-at-requires-in-loop-i c =
 pub loop-i-preserved : goal.loop-i-preserved
 loop-i-preserved c =
     let st = c in
-    let s = st.args.t1 in
+    let s = st.args.set in
     let l = c.loop-i in
     let p = here s _ _ l.i _ st.well-formed.0.1.1.0.1.0.1 c.count_of-end.ensures.0 c.loop-i-test.true in
     let talk = c.put_in-at.ensures in
@@ -51,7 +51,7 @@ shape_of-buffer c = c.loop-i.invariant.0.same
 pub returns : goal.returns
 returns c =
     let st = c in
-    let s = st.args.t1 in
+    let s = st.args.set in
     let l = c.loop-i in
     let e = counted s.channels s.size.channels _ _ st.well-formed.0.1.1.0.1.0.1 c.count_of-end.ensures.0 in
     all_put l.invariant.0 (put_end s.desks (end_sends s.desks s.size.desks) (channels_of s) l.i (omega (arith, e, c.loop-i-test.false)))

@@ -43,7 +43,7 @@ Begun = goal.After-count_of-count
 
 module _ (k : Begun) where
   abbrev set_at : LineSet
-  set_at = k.before.before.before.before.before.args.t1
+  set_at = k.before.before.before.before.before.args.set
 
   abbrev entry_at : List ℕ
   entry_at = k.before.before.before.before.before.args.entry.now

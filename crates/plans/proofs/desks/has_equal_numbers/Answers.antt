@@ -24,32 +24,32 @@ pub loop-j-preserved : goal.loop-j-preserved
 loop-j-preserved c =
     let l = c.loop-j in
     let st = c in
-    let m : st.args.n ≤ length st.args.t1 = search rules in
-    let k = get_or st.args.t1 c.pairs.i blank in
-    (search rules, search rules, l.invariant.2, l.invariant.3 ∙ number_at st.args.t1 st.args.n m l.j blank (search rules) k.number.digits ∙ rw (ne_eqb _ _ c.if-one-other.false))
+    let m : st.args.n ≤ length st.args.desks = search rules in
+    let k = get_or st.args.desks c.pairs.i blank in
+    (search rules, search rules, l.invariant.2, l.invariant.3 ∙ number_at st.args.desks st.args.n m l.j blank (search rules) k.number.digits ∙ rw (ne_eqb _ _ c.if-one-other.false))
 
 pub pairs-preserved : goal.pairs-preserved
 pairs-preserved c =
     let l = c.loop-j in
     let p = c.pairs in
     let st = c in
-    let m : st.args.n ≤ length st.args.t1 = search rules in
-    let k = get_or st.args.t1 p.i blank in
-    (search rules, l.invariant.2, p.invariant.2 ∙ distinct-at st.args.t1 st.args.n m p.i blank (search rules) ∙ rw (l.invariant.3 ∙ number_end st.args.t1 st.args.n m l.j (search rules) k.number.digits))
+    let m : st.args.n ≤ length st.args.desks = search rules in
+    let k = get_or st.args.desks p.i blank in
+    (search rules, l.invariant.2, p.invariant.2 ∙ distinct-at st.args.desks st.args.n m p.i blank (search rules) ∙ rw (l.invariant.3 ∙ number_end st.args.desks st.args.n m l.j (search rules) k.number.digits))
 
 pub returns-after-pairs : goal.returns-after-pairs
 returns-after-pairs c =
     let p = c.pairs in
     let st = c in
-    let m : st.args.n ≤ length st.args.t1 = search rules in
-    p.invariant.1 ∙ rw (p.invariant.2 ∙ distinct_end st.args.t1 st.args.n m p.i (search rules))
+    let m : st.args.n ≤ length st.args.desks = search rules in
+    p.invariant.1 ∙ rw (p.invariant.2 ∙ distinct_end st.args.desks st.args.n m p.i (search rules))
 
 pub returns-then-one-other : goal.returns-then-one-other
 returns-then-one-other c =
     let l = c.loop-j in
     let p = c.pairs in
     let st = c in
-    let m : st.args.n ≤ length st.args.t1 = search rules in
-    let k = get_or st.args.t1 p.i blank in
-    let e : has_number k.number.digits (drop (p.i + 1) (take st.args.n st.args.t1)) ≡ true = l.invariant.3 ∙ number_at st.args.t1 st.args.n m l.j blank (search rules) k.number.digits ∙ rw (eq-eqb _ _ c.if-one-other.true) in
-    rw (p.invariant.2, distinct-at st.args.t1 st.args.n m p.i blank (search rules), e)
+    let m : st.args.n ≤ length st.args.desks = search rules in
+    let k = get_or st.args.desks p.i blank in
+    let e : has_number k.number.digits (drop (p.i + 1) (take st.args.n st.args.desks)) ≡ true = l.invariant.3 ∙ number_at st.args.desks st.args.n m l.j blank (search rules) k.number.digits ∙ rw (eq-eqb _ _ c.if-one-other.true) in
+    rw (p.invariant.2, distinct-at st.args.desks st.args.n m p.i blank (search rules), e)

@@ -10,10 +10,10 @@ use Rattle.set_state.proofs.desks.desk_at.Goals as goal
 
 pub returns-then-i-lt4 : goal.returns-then-i-lt4
 returns-then-i-lt4 c =
-    let n : length c.args.t1 ≡ 4 = search rules in
-    any_default c.args.t1 _ _ no_desk (omega (arith, n, c.if-i-lt4.true))
+    let n : length c.args.desks ≡ 4 = search rules in
+    any_default c.args.desks _ _ no_desk (omega (arith, n, c.if-i-lt4.true))
 
 pub returns : goal.returns
 returns c =
-    let n : length c.args.t1 ≡ 4 = search rules in
-    c.none.ensures ∙ sym (get_or-eq_default c.args.t1 no_desk (omega (arith, n, c.if-i-lt4.false)))
+    let n : length c.args.desks ≡ 4 = search rules in
+    c.none.ensures ∙ sym (get_or-eq_default c.args.desks no_desk (omega (arith, n, c.if-i-lt4.false)))

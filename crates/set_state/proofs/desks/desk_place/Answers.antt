@@ -27,19 +27,19 @@ looked c =
     let t = both _ _ c.loop-place-test.true in
     (ltb-true _ _ t.0, ltb-true _ _ t.1)
 
-among : (c : In-loop-place) → c.loop-place.place < length (take c.args.n c.args.t1)
+among : (c : In-loop-place) → c.loop-place.place < length (take c.args.n c.args.desks)
 among c =
-    let ds = c.args.t1 in
+    let ds = c.args.desks in
     let l : length ds ≡ 4 = search rules in
     omega (arith, length-take c.args.n ds, l, (looked c).0, (looked c).1)
 
 -- the desk there, among the first n
 same_desk : (c : In-loop-place) (z : Desk)
-    → eqb (get_or (take c.args.n c.args.t1) c.loop-place.place no_desk).number.digits c.args.number.digits
-    ≡ eqb (get_or c.args.t1 c.loop-place.place z).number.digits c.args.number.digits
+    → eqb (get_or (take c.args.n c.args.desks) c.loop-place.place no_desk).number.digits c.args.number.digits
+    ≡ eqb (get_or c.args.desks c.loop-place.place z).number.digits c.args.number.digits
 same_desk c z =
     let a = c.args in
-    ap (λ (k : Desk). eqb k.number.digits a.number.digits) (at-taken a.t1 a.n c.loop-place.place no_desk z (among c))
+    ap (λ (k : Desk). eqb k.number.digits a.number.digits) (at-taken a.desks a.n c.loop-place.place no_desk z (among c))
 
 -- a place at an end
 ended : (ds : List Desk) (n i : ℕ) → length ds ≡ 4 → (ltb i n && ltb i 4) ≡ false → length (take n ds) ≤ i
@@ -82,5 +82,5 @@ loop-place-preserved c =
 pub returns : goal.returns
 returns c =
     let a = c.args in
-    let l : length a.t1 ≡ 4 = search rules in
-    sought-last (seeks a.number.digits) _ c.loop-place.place (ended a.t1 a.n _ l c.loop-place-test.false) c.loop-place.invariant
+    let l : length a.desks ≡ 4 = search rules in
+    sought-last (seeks a.number.digits) _ c.loop-place.place (ended a.desks a.n _ l c.loop-place-test.false) c.loop-place.invariant
