@@ -51,7 +51,7 @@ use Rattle.frames.specs.Frames.{frames_to}
 use Rattle.set_rules.specs.Feeds.{Outcome, Item, outcome_of, step_of, step_by, of_desk, received, Seen, seen_of, views}
 use Rattle.set_rules.specs.Promises.{Renumbered, OtherHolds, NotCalled, OtherSource, MayDiffer, same, talks, calls-other, other-answers, request_in, matches_in, from_called, Alike, Related, ended, more, Isolated}
 use Rattle.set_rules.proofs.Answers.{written}
-use Rattle.set_rules.proofs.Hidden.{hides_twice, hide_set, channel_at-hide, refusal-hide, Shown, shown, place-shown, accepted-hide}
+use Rattle.set_rules.proofs.Hiding.{hides_twice, hide_set, channel_at-hide, refusal-hide, Shown, shown, place-shown, accepted-hide}
 use Rattle.set_rules.proofs.Rows.{no_row, row-finds}
 use Rattle.set_rules.proofs.Shape.{mask_in}
 

@@ -1,6 +1,6 @@
 mod Answers
 mod Received
-mod Hidden
+mod Hiding
 mod Isolation
 mod Witness
 mod Rows

@@ -24,7 +24,7 @@ contact : (c : After-shared_slice_known-then-bytes-ge8-1) → byte c.args.bytes.
 contact c = sym c.byte-kind.ensures ∙ c.if-kind-eq2.true
 
 pub bounds-bytes-3 : goal.bounds-bytes-3
-bounds-bytes-3 c = omega (arith, long c.before)
+bounds-bytes-3 c = omega (arith, kind-there c.args.bytes.now (sym c.byte-kind.ensures ∙ c.if-kind-eq1.true))
 
 pub slice_bounds-put_telegram-count : goal.slice_bounds-put_telegram-count
 slice_bounds-put_telegram-count c = omega (arith, long (goal.at.slice_bounds-put_telegram-count c).After-shared_slice_known-then-kind-eq1-1)

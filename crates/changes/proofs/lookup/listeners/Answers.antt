@@ -18,6 +18,6 @@ returns c =
     let st = c in
     let n : length st.args.desks ≡ 4 = search rules in
     let ds = st.args.desks in
-    rw (c.place_if-a.ensures.0, c.place_if-b.ensures.0, c.place_if-c.ensures.0, c.place_if-d.ensures.0)
+    rw (c.place_if-a.ensures.value, c.place_if-b.ensures.value, c.place_if-c.ensures.value, c.place_if-d.ensures.value)
     (shares (get_or ds 0 none) (get_or ds 1 none) (get_or ds 2 none) (get_or ds 3 none) st.args.n st.args.entitled
     ∙ ap (λ (l : List Desk). running_from 0 st.args.entitled (take st.args.n l)) (sym (four ds none n)))

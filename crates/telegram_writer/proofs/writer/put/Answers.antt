@@ -19,4 +19,4 @@ pub returns : goal.returns
 returns c =
     let size = c.size-n.ensures in
     let st = c in
-    (size, c.put_form.ensures ∙ rw (size, c.form-bytes.ensures) (form_over _ _ _ st.requires))
+    record { value = size; buffer_after = c.put_form.ensures ∙ rw (size, c.form-bytes.ensures) (form_over _ _ _ st.requires) }

@@ -10,14 +10,17 @@ use Rattle.telegram_writer.proofs.writer.write.Goals as goal
 
 pub returns-then-code-gt1023 : goal.returns-then-code-gt1023
 unfolding write_answer write_into
-returns-then-code-gt1023 c = (simp (lt-leb _ _ c.if-code-gt1023.true), simp (lt-leb _ _ c.if-code-gt1023.true))
+returns-then-code-gt1023 c = record {
+  value = simp (lt-leb _ _ c.if-code-gt1023.true);
+  buffer_after = simp (lt-leb _ _ c.if-code-gt1023.true);
+}
 
 pub returns-then-not-in_range : goal.returns-then-not-in_range
 unfolding write_answer write_into
 returns-then-not-in_range c =
     let o = le-leb _ _ c.if-code-gt1023.false in
     let a = sym c.in_range.ensures ∙ c.if-not-in_range.true in
-    (simp (o, a), simp (o, a))
+    record { value = simp (o, a); buffer_after = simp (o, a) }
 
 pub returns-then-buffer-size : goal.returns-then-buffer-size
 unfolding write_answer write_into
@@ -27,7 +30,7 @@ returns-then-buffer-size c =
     let o = le-leb _ _ k.if-code-gt1023.false in
     let a = sym k.in_range.ensures ∙ c.if-not-in_range.false in
     let n = lt-leb (size_of g.message) (length g.buffer.now) (omega (arith, c.size.ensures)) in
-    (simp (o, a, n), simp (o, a, n))
+    record { value = simp (o, a, n); buffer_after = simp (o, a, n) }
 
 pub put-requires : goal.put-requires
 put-requires c = omega (arith, c.size.ensures)
@@ -36,10 +39,10 @@ pub returns : goal.returns
 unfolding write_answer write_into
 returns c =
     let l = c in
-    let k = l.before.before in
+    let k = c in
     let g = k.args in
     let o = le-leb _ _ k.if-code-gt1023.false in
     let a = sym k.in_range.ensures ∙ l.if-not-in_range.false in
     let n = le-leb (size_of g.message) (length g.buffer.now) (omega (arith, l.size.ensures)) in
     let p = c.put.ensures in
-    (simp (o, a, n, p.0), simp (o, a, n) p.1)
+    record { value = simp (o, a, n, p.value); buffer_after = simp (o, a, n) p.buffer_after }
