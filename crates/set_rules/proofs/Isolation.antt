@@ -465,6 +465,8 @@ module _ (B : ℕ) where
   views-alike : (s s' : LineSet) (f f' : List Item) → hide_set B s ≡ hide_set B s' → Related B s s' f f' → views B s f ≡ views B s' f'
   unfolding views
   views-alike s s' [] [] h ended = refl
+  views-alike s s' [] (i' ∷ f') h x4 = elim x4 [ ]
+  views-alike s s' (i ∷ f) [] h x4 = elim x4 [ ]
   views-alike s s' (i ∷ f) (i' ∷ f') h (more a r rest) =
       let v : view s i.entry (length i.buffer) ≡ view s' i'.entry (length i'.buffer) =
       view-alike s s' h i.entry i'.entry (length i.buffer) a ∙ ap (view s' i'.entry) r in

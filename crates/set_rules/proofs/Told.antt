@@ -294,5 +294,5 @@ told-right M f i bs b = go (eqb (step_by (state_of f) i).refusal 0) refl
         → Each (Right (served_by (state_of f) (step_by (state_of f) i)) M) (letters_in (written_in i (step_by (state_of f) i)))
     go true h =
         let z = eqb-true _ 0 h in
-        rw (readable f i z) (letters_right _ M _ _ (item-tells M f i (always_among M f bs) b z).sent-right)
+        rw (readable f i z) (letters_right (served_by (state_of f) (step_by (state_of f) i)) M _ _ (item-tells M f i (always_among M f bs) b z).sent-right)
     go false h = rw (refused (state_of f) i.entry (length i.buffer) (eqb-false _ 0 h)).0 tt

@@ -18,14 +18,14 @@ put_byte-place-requires c =
 pub put_number-requires : goal.put_number-requires
 put_number-requires c =
     let d = c in
-    let s = d.before.before.before in
+    let s = c in
     let size = ap decimal (d.magnitude-size.ensures ∙ size_back s.ranges.n) in
     omega (arith, ap length (signed_is s.args.n true s.ranges.n d.if-n-lt0.true), c.put_byte-place.ensures.place, ap length size)
 
 pub returns-then-n-lt0 : goal.returns-then-n-lt0
 returns-then-n-lt0 c =
     let d = c in
-    let s = d.before.before.before in
+    let s = c in
     let size = ap decimal (d.magnitude-size.ensures ∙ size_back s.ranges.n) in
     alike (also c.put_byte-place.ensures (alike c.put_number.ensures size))
     (sym (signed_is _ true s.ranges.n d.if-n-lt0.true))
@@ -33,13 +33,13 @@ returns-then-n-lt0 c =
 pub put_number-requires-2 : goal.put_number-requires-2
 put_number-requires-2 c =
     let d = c in
-    let s = d.before.before.before in
+    let s = c in
     let size = ap decimal (d.magnitude-size.ensures ∙ size_back s.ranges.n) in
     omega (arith, ap length (signed_is s.args.n false s.ranges.n d.if-n-lt0.false), ap length size)
 
 pub returns : goal.returns
 returns c =
     let d = c in
-    let s = d.before.before.before in
+    let s = c in
     let size = ap decimal (d.magnitude-size.ensures ∙ size_back s.ranges.n) in
     alike c.put_number-2.ensures (size ∙ sym (signed_is _ false s.ranges.n d.if-n-lt0.false))

@@ -21,22 +21,22 @@ put_item-second-requires c =
 pub put_item-third-requires : goal.put_item-third-requires
 put_item-third-requires c =
     let second = c in
-    let first = second.before.before.before.before in
+    let first = c in
     let a = first.args in
     omega (arith, entry_length a.number a.refusal a.count, first.put_letter-first.ensures.place, simp length-append at second.put_item-second.ensures.place)
 
 pub put_item-requires : goal.put_item-requires
 put_item-requires c =
     let third = c in
-    let second = third.before.before.before.before in
-    let first = second.before.before.before.before in
+    let second = c in
+    let first = c in
     let a = first.args in
     omega (arith, entry_length a.number a.refusal a.count, first.put_letter-first.ensures.place, simp length-append at second.put_item-second.ensures.place, simp length-append at third.put_item-third.ensures.place)
 
 pub returns : goal.returns
 returns c =
     let fourth = c in
-    let third = fourth.before.before.before.before in
-    let second = third.before.before.before.before in
-    let first = second.before.before.before.before in
+    let third = c in
+    let second = c in
+    let first = c in
     rw entry_items (also (also (also first.put_letter-first.ensures second.put_item-second.ensures) third.put_item-third.ensures) fourth.put_item.ensures)

@@ -21,22 +21,22 @@ put_item-second-requires c =
 pub put_bytes-end-requires : goal.put_bytes-end-requires
 put_bytes-end-requires c =
     let second = c in
-    let first = second.before.before.before.before in
+    let first = c in
     let a = first.args in
     omega (arith, telegram-length a.desk a.telegram.now, first.put_letter-first.ensures.place, simp length-append at second.put_item-second.ensures.place)
 
 pub put_byte-requires : goal.put_byte-requires
 put_byte-requires c =
     let third = c in
-    let second = third.before.before.before.before in
-    let first = second.before.before.before.before in
+    let second = c in
+    let first = c in
     let a = first.args in
     omega (arith, telegram-length a.desk a.telegram.now, first.put_letter-first.ensures.place, simp length-append at second.put_item-second.ensures.place, third.put_bytes-end.ensures.place)
 
 pub returns : goal.returns
 returns c =
     let fourth = c in
-    let third = fourth.before.before.before.before in
-    let second = third.before.before.before.before in
-    let first = second.before.before.before.before in
+    let third = c in
+    let second = c in
+    let first = c in
     rw telegram_items (also (also (also first.put_letter-first.ensures second.put_item-second.ensures) third.put_bytes-end.ensures) fourth.put_byte.ensures)

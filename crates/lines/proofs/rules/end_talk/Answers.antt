@@ -10,5 +10,5 @@ pub returns : goal.returns
 unfolding end_talk
 returns c =
     let c₄ = c in
-    let c₇ = c₄.before.before.before in
+    let c₇ = c in
     (c.new-next.ensures, simp (send-by-send, heard_press_off, c₇.press_sends-press.ensures, c₇.set_of.ensures, sym c₄.mobile_off_sends-mobile.ensures) refl)

@@ -5,4 +5,4 @@ use borrow.Author.Rules.{rules}
 use Rattle.plain_set.proofs.convert.channel_in.Goals as goal
 
 pub returns : goal.returns
-returns c = simp (c.arrival_in.ensures, c.call_in-call.ensures, c.party_in-presser.ensures, c.party_in-holder.ensures) refl
+returns c = simp (c.arrival_in-arrival.ensures, c.call_in-call.ensures, c.party_in-presser.ensures, c.party_in-holder.ensures) refl

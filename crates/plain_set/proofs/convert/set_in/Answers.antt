@@ -5,4 +5,4 @@ use borrow.Author.Rules.{rules}
 use Rattle.plain_set.proofs.convert.set_in.Goals as goal
 
 pub returns : goal.returns
-returns c = simp (c.channels_in.ensures, c.desks_in.ensures) refl
+returns c = simp (c.channels_in-channels.ensures, c.desks_in-desks.ensures) refl

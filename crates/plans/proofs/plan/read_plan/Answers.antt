@@ -66,7 +66,7 @@ unfolding plan_of plan_ok
 returns-then-not-d c =
     let d = c in
     let p = plan d.before.before in
-    let e = desks-bad (desk_count p) (desks_part p) d.read_desks-d.result (desks_were (goal.at.returns-then-not-d c).After-read_desks-d) (not-true _ c.if-not-d.true) in
+    let e = desks-bad (desk_count p) (desks_part p) d.read_desks-d.result (desks_were (goal.at.returns-then-not-d c).After-read_desks-d) (not-true _ c.not-true _ if-not-d.true) in
     simp (e, and-false) c.no_plan-then-not-d.ensures
 
 -- where the desks are right too
@@ -78,7 +78,7 @@ desks : (s : After-desks-1)
     × (s.read_desks-d.result.desks ≡ filled 4 no_desk (desks_of (plan (counts s))))
 desks s =
     let d = s.before.before.before in
-    desks-found _ _ d.read_desks-d.result (desks_were d) (not-false _ s.if-not-d.false)
+    desks-found _ _ d.read_desks-d.result (desks_were d) (not-false _ s.not-false _ if-not-d.false)
 
 pub has_equal_numbers-requires : goal.has_equal_numbers-requires
 has_equal_numbers-requires c = omega (arith, desk_count_lem (counts c), (facts (counts c)).desks)
@@ -136,7 +136,7 @@ unfolding plan_of plan_ok
 returns-then-not-c c =
     let h = c in
     let p = plan (counted-at h.before) in
-    let e = channels-bad (channel_count p) (desk_count p) (channels_part p) h.read_channels-c.result (channels_were (goal.at.returns-then-not-c c).After-read_channels-c) (not-true _ c.if-not-c.true) in
+    let e = channels-bad (channel_count p) (desk_count p) (channels_part p) h.read_channels-c.result (channels_were (goal.at.returns-then-not-c c).After-read_channels-c) (not-true _ c.not-true _ if-not-c.true) in
     simp (e, and-false) c.no_plan-then-not-c.ensures
 
 pub returns : goal.returns
@@ -149,5 +149,5 @@ returns c =
     let k = right w in
     let d = desks a.before in
     let e : distinct (desks_of p) ≡ true = not-false _ (sym (distinct_are a) ∙ h.if-has_equal_numbers.false) in
-    let f = channels-found (channel_count p) (desk_count p) (channels_part p) h.read_channels-c.result (channels_were (goal.at.returns c).After-read_channels-c) (not-false _ c.if-not-c.false) in
+    let f = channels-found (channel_count p) (desk_count p) (channels_part p) h.read_channels-c.result (channels_were (goal.at.returns c).After-read_channels-c) (not-false _ c.not-false _ if-not-c.false) in
     simp (k.0, d.0, e, f.0, k.1, d.1, f.1)

@@ -36,16 +36,16 @@ returns-then-channel-gt0-2 c =
 pub returns-then-not-is_held : goal.returns-then-not-is_held
 returns-then-not-is_held c =
     let t = c in
-    sym (free _ t.if-channel-gt0.false (no_talk (goal.at.returns-then-not-is_held c).Else-is_held-is_present) c.if-channel-gt0-2.false (not-true _ (rw c.is_held-2.ensures at c.if-not-is_held.true)))
+    sym (free _ t.if-channel-gt0.false (no_talk (goal.at.returns-then-not-is_held c).Else-is_held-is_present) c.if-channel-gt0-2.false (rw c.is_held-2.ensures at c.if-not-is_held.true))
 
 pub returns-then-channel-gt1-3 : goal.returns-then-channel-gt1-3
 returns-then-channel-gt1-3 c =
     let h = c in
-    let t = h.before.before.before.before in
-    sym (release_falls _ t.if-channel-gt0.false (no_talk t) h.if-channel-gt0-2.false (not-false _ (rw h.is_held-2.ensures at h.if-not-is_held.false)) c.if-channel-gt1-3.true)
+    let t = c in
+    sym (release_falls _ t.if-channel-gt0.false (no_talk (goal.at.returns-then-channel-gt1-3 c).Else-is_held-is_present) h.if-channel-gt0-2.false (rw h.is_held-2.ensures at h.if-not-is_held.false) c.if-channel-gt1-3.true)
 
 pub returns : goal.returns
 returns c =
     let h = c in
-    let t = h.before.before.before.before in
-    sym (release-due _ t.if-channel-gt0.false (no_talk t) h.if-channel-gt0-2.false (not-false _ (rw h.is_held-2.ensures at h.if-not-is_held.false)) c.if-channel-gt1-3.false)
+    let t = c in
+    sym (release-due _ t.if-channel-gt0.false (no_talk (goal.at.returns c).Else-is_held-is_present) h.if-channel-gt0-2.false (rw h.is_held-2.ensures at h.if-not-is_held.false) c.if-channel-gt1-3.false)

@@ -18,7 +18,7 @@ returns-then-channel c =
     sym (later x (not-true _ n.0) (not-true _ n.1) (ltb-true 1 x.release b.1))
 
 pub returns-in-Still : goal.returns-in-Still
-returns-in-Still c = sym (ap is_due (sym c.falls-falling.ensures) ∙ none-due c.falls-falling.result c.in-Still.keys1)
+returns-in-Still c = sym (ap is_due (sym c.falls-falling.ensures) ∙ none-due c.falls-falling.result c.in-Still.in-Still-own.keys1)
 
 pub returns-in-Due : goal.returns-in-Due
 returns-in-Due c = sym (ap is_due (sym c.falls-falling.ensures ∙ c.in-Due.is))
