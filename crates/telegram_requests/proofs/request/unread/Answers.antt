@@ -26,4 +26,4 @@ pub returns-in-550600 : goal.returns-in-550600
 returns-in-550600 c = simp (ne_eqb _ _ c.if-number-eq8.false, eq-eqb _ _ c.if-seen-code.false, ne_eqb _ _ c.if-number-eq9.false, c.in-550600.is) refl
 
 pub returns-in_default : goal.returns-in_default
-returns-in_default c = simp (ne_eqb _ _ c.if-number-eq8.false, eq-eqb _ _ c.if-seen-code.false, ne_eqb _ _ c.if-number-eq9.false, ne_eqb _ _ c.in_default.in_default-own.rest.0.0.0.1, ne_eqb _ _ c.in_default.rest.0.0.1, ne_eqb _ _ c.in_default.rest.0.1, ne_eqb _ _ c.in_default.rest.1) refl
+returns-in_default c = simp (ne_eqb _ _ c.if-number-eq8.false, eq-eqb _ _ c.if-seen-code.false, ne_eqb _ _ c.if-number-eq9.false, ne_eqb _ _ c.in_default.in_default-own.rest.0.0.0.1, ne_eqb _ _ c.in_default.in_default-own.rest.0.0.1, ne_eqb _ _ c.in_default.in_default-own.rest.0.1, ne_eqb _ _ c.in_default.in_default-own.rest.1) refl

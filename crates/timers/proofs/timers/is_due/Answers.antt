@@ -1,6 +1,7 @@
 -- `timers::timers::is_due` meets its contract: a timer with more than a second left does not run out.
 -- Assumes nothing.
 use borrow.Author.Rules.{rules}
+use borrow.Enum.Refused.{opened}
 use borrow.Author.Tests.{ltb-true, not-true}
 use mathlib.Core.Path.{refl, sym, ap, ◌∙◌}
 use mathlib.Core.Bool.{not, ◌&&◌}
@@ -18,7 +19,7 @@ returns-then-channel c =
     sym (later x (not-true _ n.0) (not-true _ n.1) (ltb-true 1 x.release b.1))
 
 pub returns-in-Still : goal.returns-in-Still
-returns-in-Still c = sym (ap is_due (sym c.falls-falling.ensures) ∙ none-due c.falls-falling.result c.in-Still.in-Still-own.keys1)
+returns-in-Still c = sym (ap is_due (sym c.falls-falling.ensures) ∙ none-due c.falls-falling.result (opened c.in-Still.in-Still-own.keys1))
 
 pub returns-in-Due : goal.returns-in-Due
 returns-in-Due c = sym (ap is_due (sym c.falls-falling.ensures ∙ c.in-Due.is))
