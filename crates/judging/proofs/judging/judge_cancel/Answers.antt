@@ -5,10 +5,10 @@ use borrow.Author.Tests.{lt-ltb, le-ltb, not-true, not-false}
 use Rattle.judging.proofs.judging.judge_cancel.Goals as goal
 
 pub returns-then-not-found : goal.returns-then-not-found
-returns-then-not-found c = simp (not-true c.args.found c.if-not-found.true) refl
+returns-then-not-found c = simp (c.if-not-found.true) refl
 
 pub returns-then-c-gt0 : goal.returns-then-c-gt0
-returns-then-c-gt0 c = simp (not-false c.args.found c.if-not-found.false, lt-ltb _ _ c.if-c-gt0.true) refl
+returns-then-c-gt0 c = simp (c.if-not-found.false, lt-ltb _ _ c.if-c-gt0.true) refl
 
 pub returns-else-c-gt0 : goal.returns-else-c-gt0
-returns-else-c-gt0 c = simp (not-false c.args.found c.if-not-found.false, le-ltb _ _ c.if-c-gt0.false) refl
+returns-else-c-gt0 c = simp (c.if-not-found.false, le-ltb _ _ c.if-c-gt0.false) refl
