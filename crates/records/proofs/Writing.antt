@@ -37,7 +37,7 @@ unfolding written
 part-back xs a vs ys h e =
     let none : drop (length xs - a) (drop a xs) ≡ [] = drop_of_length-le (drop a xs) {i = length xs - a} (simp length-drop (le_refl _)) in
     let fits : 0 + length vs ≤ length (drop a xs) = simp length-drop (omega arith) in
-    rw (none, append-nil, e, part_to_end xs a, sets-eq vs (drop a xs) 0 fits, sets-eq vs xs a h, zero-add, drop-drop, append_assoc) refl
+    rw (none, append-nil, e, part_to_end xs a, sets-eq vs (drop a xs) 0 fits, sets-eq vs xs a h, zero-add, drop-drop) (simp append_assoc)
 
 -- ---- writing in several turns
 

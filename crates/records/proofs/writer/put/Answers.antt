@@ -18,14 +18,14 @@ pub put_send-p-requires : goal.put_send-p-requires
 put_send-p-requires c =
     let l = c.loop-k in
     let st = c in
-    let n : length st.args.t5 ≡ 7 = search rules in
+    let n : length st.args.sends ≡ 7 = search rules in
     room l.invariant.0 (send_turn _ _ _ l.k _ (omega (arith, n))) st.requires
 
 pub loop-k-preserved : goal.loop-k-preserved
 loop-k-preserved c =
     let l = c.loop-k in
     let e = c.put_send-p.ensures in
-    let n : length c.args.t5 ≡ 7 = search rules in
+    let n : length c.args.sends ≡ 7 = search rules in
     (next l.invariant.0 (send_turn _ _ _ l.k _ (omega (arith, n))) e.0 e.1, omega arith)
 
 pub shape_of-buffer : goal.shape_of-buffer
@@ -34,5 +34,5 @@ shape_of-buffer c = c.loop-k.invariant.0.same
 pub returns : goal.returns
 returns c =
     let l = c.loop-k in
-    let n : length c.args.t5 ≡ 7 = search rules in
+    let n : length c.args.sends ≡ 7 = search rules in
     all_put l.invariant.0 (send_end _ _ _ l.k (omega (arith, n)))

@@ -29,14 +29,14 @@ returns-then-x-ne0 c = λ found d k. rw (ne_eqb _ _ c.if-x-ne0.true) refl
 
 pub returns-then-not-planned : goal.returns-then-not-planned
 unfolding asked_of first_of
-returns-then-not-planned c = λ found d k. rw (eq-eqb _ _ c.if-x-ne0.false, not-true c.args.planned c.if-not-planned.true, ne_eqb _ _ k) refl
+returns-then-not-planned c = λ found d k. rw (eq-eqb _ _ c.if-x-ne0.false, c.if-not-planned.true, ne_eqb _ _ k) refl
 
 pub returns-then-from_desk-n : goal.returns-then-from_desk-n
 unfolding asked_of first_of
 returns-then-from_desk-n c = λ found d k.
     let a = c.args in
     let t = both (from_desk a.x) (leb a.n a.x.desk) c.if-from_desk-n.true in
-    rw (eq-eqb _ _ c.if-x-ne0.false, not-false a.planned c.if-not-planned.false, ne_eqb _ _ k, t.0, le-ltb a.x.desk a.n (leb-true _ _ t.1)) refl
+    rw (eq-eqb _ _ c.if-x-ne0.false, c.if-not-planned.false, ne_eqb _ _ k, t.0, le-ltb a.x.desk a.n (leb-true _ _ t.1)) refl
 
 pub slice_bounds-read_request-count : goal.slice_bounds-read_request-count
 slice_bounds-read_request-count c = c.telegram_start-start.ensures.1
@@ -58,7 +58,7 @@ returns-then-x-eq1 c = λ found d k.
     let desk = c₃.desk_at-desk.ensures in
     let one : a.x.kind ≡ 1 = c₃.if-x-eq1.true in
     let there = desk_there true a.n a.x.desk (rw one at c₇.if-from_desk-n.false) in
-    rw (eq-eqb _ _ c₁₂.if-x-ne0.false, not-false a.planned c₁₂.if-not-planned.false, one, there)
+    rw (eq-eqb _ _ c₁₂.if-x-ne0.false, c₁₂.if-not-planned.false, one, there)
     (c.in_phase.ensures
     ∙ ap₂ (λ (j : Desk) (q : Asked). in_phase j.link.phase q) desk
     (c.read_request-asked.ensures ∙ ap₂ (λ (j : Desk) (l : List ℕ). telegram_asked a.x.desk j.code (read_telegram l)) desk whole)
@@ -73,7 +73,7 @@ returns-then-from_desk-desk c = λ found d k.
     let a = c₁₀.args in
     let t = both (from_desk a.x) _ c.if-from_desk-desk.true in
     let other = ne_eqb _ _ c.if-x-eq1.false in
-    rw (eq-eqb _ _ c₁₀.if-x-ne0.false, not-false a.planned c₁₀.if-not-planned.false, ne_eqb _ _ k, desk_there (from_desk a.x) a.n a.x.desk c₄.if-from_desk-n.false, other, rw other at t.0, ← c₄.desk_at-desk.ensures, t.1) refl
+    rw (eq-eqb _ _ c₁₀.if-x-ne0.false, c₁₀.if-not-planned.false, ne_eqb _ _ k, desk_there (from_desk a.x) a.n a.x.desk c₄.if-from_desk-n.false, other, rw other at t.0, ← c₄.desk_at-desk.ensures, t.1) refl
 
 -- what is not by telegram
 pub returns : goal.returns
@@ -83,5 +83,5 @@ returns c = λ found d k.
     let c₁₃ = c₇.before.before.before.before.before.before in
     let a = c₁₃.args in
     let other = ne_eqb _ _ c.if-x-eq1.false in
-    rw (eq-eqb _ _ c₁₃.if-x-ne0.false, not-false a.planned c₁₃.if-not-planned.false, ne_eqb _ _ k, desk_there (from_desk a.x) a.n a.x.desk c₇.if-from_desk-n.false, other, ← c₇.desk_at-desk.ensures, rw other at c.if-from_desk-desk.false)
+    rw (eq-eqb _ _ c₁₃.if-x-ne0.false, c₁₃.if-not-planned.false, ne_eqb _ _ k, desk_there (from_desk a.x) a.n a.x.desk c₇.if-from_desk-n.false, other, ← c₇.desk_at-desk.ensures, rw other at c.if-from_desk-desk.false)
     (ap (λ (v : Event). OfLine (OnChannel a.x.channel (num 0) v)) c.event_of-event.ensures)

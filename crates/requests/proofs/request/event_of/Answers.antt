@@ -17,7 +17,7 @@ pub returns-in-3 : goal.returns-in-3
 returns-in-3 c = simp c.in-3.is refl
 
 pub returns-in-4 : goal.returns-in-4
-returns-in-4 c = simp c.in-4.is (ap (λ (k : Number). MobileOn c.args.x.base k) c.number_in.ensures)
+returns-in-4 c = simp c.in-4.is (ap (λ (k : Number). MobileOn c.args.x.base k) c.number_in-number.ensures)
 
 pub returns-in-9 : goal.returns-in-9
 returns-in-9 c = simp c.in-9.is c.ring_of.ensures

@@ -12,5 +12,5 @@ use Rattle.requests.proofs.request.ring_of.Goals as goal
 pub returns : goal.returns
 returns c =
     let a = c.args in
-    let place = c.desk_place-place.ensures ∙ ap (λ (k : Number). desk_place k.digits (take a.n a.desks)) c.number_in.ensures in
+    let place = c.desk_place-place.ensures ∙ ap (λ (k : Number). desk_place k.digits (take a.n a.desks)) c.number_in-called.ensures in
     ap₂ (λ (d : ℕ) (k : Number). Ring d a.x.base k) place c.number_in-number.ensures
