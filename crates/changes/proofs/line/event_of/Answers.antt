@@ -14,7 +14,7 @@ returns-in-OnChannel c = rw c.in-OnChannel.is refl
 pub returns-in-AnswersRing : goal.returns-in-AnswersRing
 returns-in-AnswersRing c =
     let a = c.args in
-    let q = c.request-in-AnswersRing-1.given in
-    rw q.1
+    let q = c.in-AnswersRing in
+    rw q.is
     (ap (λ (t : Bool). RingAnswer a.d t)
-    (c.answers_ring-matched.ensures ∙ ap (λ (j : Desk). answers_ring a.d j.number q.0.0 a.c) c.desk_at-desk.ensures))
+    (c.answers_ring-matched.ensures ∙ ap (λ (j : Desk). answers_ring a.d j.number q.answer a.c) c.desk_at-desk.ensures))

@@ -10,20 +10,20 @@ use Rattle.changes.proofs.line.refusal_of.Goals as goal
 pub returns-in-OnChannel : goal.returns-in-OnChannel
 returns-in-OnChannel c = λ planned cs k place e w.
     let a = c.args in
-    let q = c.request-1.given in
-    let number = q.0.1.0 in
+    let q = c.in-OnChannel in
+    let number = q.number in
     let h = c.is_heard-heard in
     let m = c.judge.ensures ∙ ap (λ (j : Desk). refusal_by a.x number j.number h.result a.found a.c) c.desk_at-desk.ensures in
-    asked-refusal planned a.desks a.n cs k e a.x a.found a.c q.0.0 number q.0.1.1.0 place (rw q.1 at w) h.result (λ t. h.ensures) ∙ sym m
+    asked-refusal planned a.desks a.n cs k e a.x a.found a.c q.code number q.event place (rw q.is at w) h.result (λ t. h.ensures) ∙ sym m
 
 pub returns-then-may_use : goal.returns-then-may_use
 returns-then-may_use c = λ planned cs k place e w.
     let a = c.args in
-    let q = c.request-in-AnswersRing-1.given in
-    answer-refusal planned a.desks a.n cs k e a.x a.found a.c q.0.0 place (rw q.1 at w) ∙ rw (sym c.may_use.ensures ∙ c.if-may_use.true) refl
+    let q = c.in-AnswersRing in
+    answer-refusal planned a.desks a.n cs k e a.x a.found a.c q.answer place (rw q.is at w) ∙ rw (sym c.may_use.ensures ∙ c.if-may_use.true) refl
 
 pub returns-else-may_use : goal.returns-else-may_use
 returns-else-may_use c = λ planned cs k place e w.
     let a = c.args in
-    let q = c.request-in-AnswersRing-1.given in
-    answer-refusal planned a.desks a.n cs k e a.x a.found a.c q.0.0 place (rw q.1 at w) ∙ rw (sym c.may_use.ensures ∙ c.if-may_use.false) refl
+    let q = c.in-AnswersRing in
+    answer-refusal planned a.desks a.n cs k e a.x a.found a.c q.answer place (rw q.is at w) ∙ rw (sym c.may_use.ensures ∙ c.if-may_use.false) refl
