@@ -44,11 +44,11 @@ take_file() {
     fi
 }
 
-# need_proved PROGRAM TIME: proves and builds it if it is not there.
+# need_proved PROGRAM TIME: proves and builds it if it is not there. `rt run` runs it too, here on nothing.
 need_proved() {
-    if [[ ! -x $top/target/bin/$1 ]]; then
+    if [[ ! -x $top/crates/$1/out/$1 ]]; then
         echo "$name: proving and building the program, $2 .." >&2
-        (cd "$top" && rt check "$1") < /dev/null >&2 || fail 1 'the program was not built'
+        (cd "$top/crates/$1" && rt run) < /dev/null >&2 || fail 1 'the program was not built'
     fi
 }
 
@@ -71,7 +71,7 @@ run_independent() {
 # that it says.
 run_proved() {
     local said status=0
-    said=$("$top/target/bin/$1" 2>&1 >&3 3>&-) || status=$?
+    said=$("$top/crates/$1/out/$1" 2>&1 >&3 3>&-) || status=$?
     # It knows nothing of names.
     [[ $said != 'standard input '* ]] || said=${file:-standard input}${said#standard input}
     if [[ $said ]]; then
