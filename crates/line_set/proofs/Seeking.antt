@@ -22,8 +22,8 @@ count-is xs n l = go (ltb 32 n) refl
     go false k = rw k (sym (length-take-le n xs (omega (arith, ltb-false 32 n k))))
 
 -- the count of a plan's channels, from what is known of an array by its machine values
-pub counted : {A B : Type 0} (xs : List A) (n : ℕ) (f : A → B) (count : ℕ) → length (map f xs) ≡ 32 → count ≡ cond (ltb 32 n) 32 n → count ≡ length (take n xs)
-counted xs n f count l e = e ∙ count-is xs n (sym (length-map xs f) ∙ l)
+pub counted : {A : Type 0} (xs : List A) (n count : ℕ) → length xs ≡ 32 → count ≡ cond (ltb 32 n) 32 n → count ≡ length (take n xs)
+counted xs n count l e = e ∙ count-is xs n l
 
 -- a channel is sought by its code
 pub by_code : (code : ℕ) → Seeks (λ (c : Channel). eqb c.code code) (place_of code)

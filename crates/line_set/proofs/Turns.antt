@@ -39,10 +39,10 @@ pub record At (cs : List Channel) (i : ℕ) (c : Channel) : Type 0 where
   pub is : get_or cs i no_channel ≡ c
 
 -- the code's: below the count of the plan's channels, whatever stands for those that are not there
-pub here : {B : Type 0} (s : LineSet) (f : Channel → B) (count i : ℕ) (z : Channel) → length (map f s.channels) ≡ 32 → count ≡ cond (ltb 32 s.size.channels) 32 s.size.channels → i < count
+pub here : (s : LineSet) (count i : ℕ) (z : Channel) → length s.channels ≡ 32 → count ≡ cond (ltb 32 s.size.channels) 32 s.size.channels → i < count
     → At (channels_of s) i (get_or s.channels i z)
-here s f count i z l e h =
-    let w : i < length (channels_of s) = omega (arith, counted s.channels s.size.channels f count l e) in
+here s count i z l e h =
+    let w : i < length (channels_of s) = omega (arith, counted s.channels s.size.channels count l e) in
     record { within = w; is = at-taken s.channels s.size.channels i no_channel z w }
 
 -- ---- of what each channel sends by f

@@ -21,7 +21,7 @@ put_in-at-requires c =
     let st = c in
     let s = st.args.set in
     let l = c.loop-i in
-    let p = here s _ _ l.i _ st.well-formed.0.1.1.0.1.0.1 c.count_of-end.ensures.0 c.loop-i-test.true in
+    let p = here s _ l.i _ st.well_formed.0.1.1.0.1.0.1 c.count_of-end.ensures.0 c.loop-i-test.true in
     room l.invariant.0 (talk-turn s.desks s.size.desks (channels_of s) l.i _ p) (omega (arith, st.requires))
 
 pub put_in-at-requires-in-loop-i : goal.put_in-at-requires-in-loop-i
@@ -29,7 +29,7 @@ put_in-at-requires-in-loop-i c =
     let st = c in
     let s = st.args.set in
     let l = c.loop-i in
-    let p = here s _ _ l.i _ st.well-formed.0.1.1.0.1.0.1 c.count_of-end.ensures.0 c.loop-i-test.true in
+    let p = here s _ l.i _ st.well_formed.0.1.1.0.1.0.1 c.count_of-end.ensures.0 c.loop-i-test.true in
     let talk = c.put_in-at.ensures in
     room (next l.invariant.0 (talk-turn s.desks s.size.desks (channels_of s) l.i _ p) talk.0 talk.1) (call-turn s.desks s.size.desks (channels_of s) l.i _) (omega (arith, st.requires))
 
@@ -38,7 +38,7 @@ loop-i-preserved c =
     let st = c in
     let s = st.args.set in
     let l = c.loop-i in
-    let p = here s _ _ l.i _ st.well-formed.0.1.1.0.1.0.1 c.count_of-end.ensures.0 c.loop-i-test.true in
+    let p = here s _ l.i _ st.well_formed.0.1.1.0.1.0.1 c.count_of-end.ensures.0 c.loop-i-test.true in
     let talk = c.put_in-at.ensures in
     let call = c.put_in-at-in-loop-i.ensures in (
       next (next l.invariant.0 (talk-turn s.desks s.size.desks (channels_of s) l.i _ p) talk.0 talk.1) (call-turn s.desks s.size.desks (channels_of s) l.i _) call.0 call.1,
@@ -53,5 +53,5 @@ returns c =
     let st = c in
     let s = st.args.set in
     let l = c.loop-i in
-    let e = counted s.channels s.size.channels _ _ st.well-formed.0.1.1.0.1.0.1 c.count_of-end.ensures.0 in
+    let e = counted s.channels s.size.channels _ st.well_formed.0.1.1.0.1.0.1 c.count_of-end.ensures.0 in
     all_put l.invariant.0 (put_end s.desks (end_sends s.desks s.size.desks) (channels_of s) l.i (omega (arith, e, c.loop-i-test.false)))

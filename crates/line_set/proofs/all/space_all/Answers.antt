@@ -23,7 +23,7 @@ loop-i-preserved c =
     let st = c in
     let s = st.args.set in
     let l = c.loop-i in
-    let p = here s _ _ l.i _ st.well-formed.0.1.1.0.1.0.1 c.count_of-end.ensures.0 c.loop-i-test.true in (
+    let p = here s _ l.i _ st.well_formed.0.1.1.0.1.0.1 c.count_of-end.ensures.0 c.loop-i-test.true in (
       ends_next s.desks s.size.desks (channels_of s) l.i _ l.sum _ _ p c.space_in-sum.ensures c.space_in-sum-in-loop-i.ensures l.invariant.0,
       omega arith,
     )
@@ -34,5 +34,5 @@ returns c =
     let st = c in
     let s = st.args.set in
     let l = c.loop-i in
-    let e = counted s.channels s.size.channels _ _ st.well-formed.0.1.1.0.1.0.1 c.count_of-end.ensures.0 in
+    let e = counted s.channels s.size.channels _ st.well_formed.0.1.1.0.1.0.1 c.count_of-end.ensures.0 in
     sum-last s.desks (end_sends s.desks s.size.desks) (channels_of s) l.i l.sum (omega (arith, e, c.loop-i-test.false)) l.invariant.0
