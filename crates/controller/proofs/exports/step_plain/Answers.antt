@@ -45,7 +45,7 @@ returns c =
     let i = c.set_in-set.ensures in
     record {
       answer =
-          ap (λ (q : PlainSet). record { set = q; count = a.count; refusal = a.refusal }) c.plain_of.ensures
+          ap (λ (q : PlainSet). record { set = q; count = a.count; refusal = a.refusal }) c.plain_of-after.ensures
           ∙ (ap (λ (t : Bool). record { set = cond t (plain_of p.layout a.set) p; count = a.count; refusal = a.refusal }) (sym (eq-eqb a.refusal 0 c.if-a-ne0.false))
           ∙ ap (kept p) (f.answer ∙ ap (λ (s : LineSet). answer_of (step_of s e (length b))) i));
       bytes = f.bytes ∙ ap (λ (s : LineSet). over (step_of s e (length b)).bytes b) i;
