@@ -1,5 +1,5 @@
-// Standard input, frame by frame, and standard output. Text that waits is written before more is read, so that no answer
-// waits for input. A call of the system that fails is said on standard error.
+// Standard input, frame by frame, and standard output, as any reader and writers. Text that waits is written before more is
+// read, so that no answer waits for input. A read or a write that fails is said on standard error.
 #![tactic(auto)]
 
 mod place;

@@ -1,10 +1,13 @@
-// Standard input, frame by frame.
+// The input, frame by frame.
 ghost use Rattle.std.specs.Prelude.{◌≡◌, ◌+◌, ◌≤◌, false, ◌++◌, length, take, drop, ◌≢◌};
+ghost use Rattle.std.specs.Io.{ReadsAtMost};
 ghost use Rattle.frames.specs.Frames.{frame_size};
 ghost use Rattle.streams.specs.Places.{Within, FilledBehind, Came, Next, unread};
 
 use super::place::Place;
 use super::{place, report, writing};
+use std::io;
+use std::io::{ErrorKind, Read, Write};
 
 // Moves so many bytes from a place on to the front.
 fn move_to_front(input: &mut [u8], from: usize, count: usize)
@@ -25,32 +28,55 @@ struct Got {
     failed: bool,
 }
 
+// Reads once, and again where a signal came before any byte did.
+fn read_once<R: Read>(reader: &mut R, buf: &mut [u8]) -> io::Result<usize>
+    ensures { ReadsAtMost result buf.new }
+{
+    for _ in 0..u64::MAX {
+        match reader.read(buf) {
+            Ok(count) => return Ok(count),
+            Err(error) => {
+                if error.kind() != ErrorKind::Interrupted {
+                    return Err(error);
+                }
+            }
+        }
+    }
+    Err(io::Error::from(ErrorKind::Interrupted))
+}
+
 // Reads once, behind the bytes that are there.
-fn read_more(input: &mut [u8], have: usize) -> Got
+fn read_more<R: Read, E: Write>(
+    reader: &mut R,
+    errors: &mut E,
+    input: &mut [u8],
+    have: usize,
+) -> Got
     requires { have ≤ length input.old }
     ensures { FilledBehind input.old have input.new (have + result.count) }
 {
-    let got = libc::read(libc::STDIN_FILENO, &mut input[have..]);
-    if got < 0 {
-        report::say_unreadable();
-        return Got {
-            count: 0,
-            failed: true,
-        };
-    }
-    Got {
-        count: io::count(got, &input[have..]),
-        failed: false,
+    match read_once(reader, &mut input[have..]) {
+        Ok(count) => Got {
+            count,
+            failed: false,
+        },
+        Err(error) => {
+            report::say_unreadable(errors, &error);
+            Got {
+                count: 0,
+                failed: true,
+            }
+        }
     }
 }
 
 // Reads until the input has ended, cannot be read or has no more room, and gives how many bytes came.
-pub fn read_all(input: &mut [u8]) -> usize
+pub fn read_all<R: Read, E: Write>(reader: &mut R, errors: &mut E, input: &mut [u8]) -> usize
     ensures { FilledBehind input.old 0 input.new result }
 {
     let mut have = 0;
     while have < input.len() {
-        let got = read_more(input, have);
+        let got = read_more(reader, errors, input, have);
         if got.count == 0 {
             break;
         }
@@ -68,14 +94,20 @@ struct Filling {
 }
 
 // Reads behind the bytes that are there, until they begin with a whole frame or no more come.
-fn fill(input: &mut [u8], have: usize, most: usize) -> Filling
+fn fill<R: Read, E: Write>(
+    reader: &mut R,
+    errors: &mut E,
+    input: &mut [u8],
+    have: usize,
+    most: usize,
+) -> Filling
     requires { (have ≤ length input.old) × (most + 2 ≤ length input.old) × (frame_size most (take have input.old) false ≡ 0) }
     ensures filled_behind { FilledBehind input.old have input.new result.filled }
     ensures false_nonzero { result.ended ≡ false → result.failed ≡ false → frame_size most (take result.filled input.new) false ≢ 0 }
 {
     let mut filled = have;
     while filled < input.len() {
-        let got = read_more(input, filled);
+        let got = read_more(reader, errors, input, filled);
         if got.failed {
             return Filling {
                 filled,
@@ -103,14 +135,20 @@ fn fill(input: &mut [u8], have: usize, most: usize) -> Filling
 }
 
 // Moves the bytes behind the frame to the front, and reads more behind them.
-fn refill(at: Place, most: usize, input: &mut [u8]) -> Place
+fn refill<R: Read, E: Write>(
+    reader: &mut R,
+    errors: &mut E,
+    at: Place,
+    most: usize,
+    input: &mut [u8],
+) -> Place
     requires { Within input.old at × (most + 2 ≤ length input.old) × (frame_size most (unread input.old at) false ≡ 0) }
     ensures { Came most input.old at input.new result × (result.waits ≡ at.waits) }
 {
     let from = at.to;
     let have = at.filled - from;
     move_to_front(input, from, have);
-    let got = fill(input, have, most);
+    let got = fill(reader, errors, input, have, most);
     let filled = got.filled;
     if got.failed {
         return place::unreadable(at, filled);
@@ -125,7 +163,16 @@ fn refill(at: Place, most: usize, input: &mut [u8]) -> Place
 
 // The frame behind this one, of at most `most` bytes behind its length, or a place that is not going where there is none. The
 // text is written before more is read, and where it has no room for another answer.
-pub fn next(at: Place, most: usize, room: usize, input: &mut [u8], text: &[u8]) -> Place
+pub fn next<R: Read, W: Write, E: Write>(
+    reader: &mut R,
+    writer: &mut W,
+    errors: &mut E,
+    at: Place,
+    most: usize,
+    room: usize,
+    input: &mut [u8],
+    text: &[u8],
+) -> Place
     requires { Within input.old at × (most + 2 ≤ length input.old) × (at.waits ≤ length text.now) × (room ≤ length text.now) }
     ensures { Next most room (length text.now) input.old at input.new result }
 {
@@ -137,12 +184,12 @@ pub fn next(at: Place, most: usize, room: usize, input: &mut [u8], text: &[u8]) 
             return place::at_frame(at, from, from + size, filled, false);
         }
     }
-    let written = writing::write_out(at, text);
+    let written = writing::write_out(writer, errors, at, text);
     if written.failed {
         return written;
     }
     if size > 0 {
         return place::at_frame(written, from, from + size, filled, false);
     }
-    refill(written, most, input)
+    refill(reader, errors, written, most, input)
 }

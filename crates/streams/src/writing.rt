@@ -1,19 +1,26 @@
-// Standard output.
+// The output.
 ghost use Rattle.std.specs.Prelude.{◌≡◌, ◌≤◌, length};
 ghost use Rattle.streams.specs.Places.{written_out};
 
 use super::place::Place;
 use super::report;
+use std::io::Write;
 
 // Writes the text that waits. Where that fails, the program is to stop.
-pub fn write_out(at: Place, text: &[u8]) -> Place
+pub fn write_out<W: Write, E: Write>(
+    writer: &mut W,
+    errors: &mut E,
+    at: Place,
+    text: &[u8],
+) -> Place
     requires { at.waits ≤ length text.now }
     ensures { result ≡ written_out at result.failed }
 {
     let waits = at.waits;
-    let failed = !io::write_all(libc::STDOUT_FILENO, &text[..waits]);
-    if failed {
-        report::say_unwritable();
+    let mut failed = false;
+    if let Err(error) = writer.write_all(&text[..waits]) {
+        report::say_unwritable(errors, &error);
+        failed = true;
     }
     Place {
         from: at.from,
