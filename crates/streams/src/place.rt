@@ -47,7 +47,7 @@ pub fn at_frame(p: Place, from: usize, to: usize, filled: usize, ended: bool) ->
         failed: false,
         filled,
         // no input is long enough to wrap this
-        number: std::num::wrapping_add_u64(p.number, 1),
+        number: p.number.wrapping_add(1),
         waits: p.waits,
     }
 }

@@ -103,7 +103,7 @@ fn fill<R: Read, E: Write>(
 ) -> Filling
     requires { (have ≤ length input.old) × (most + 2 ≤ length input.old) × (frame_size most (take have input.old) false ≡ 0) }
     ensures filled_behind { FilledBehind input.old have input.new result.filled }
-    ensures false_nonzero { result.ended ≡ false → result.failed ≡ false → frame_size most (take result.filled input.new) false ≢ 0 }
+    ensures whole { result.ended ≡ false → result.failed ≡ false → frame_size most (take result.filled input.new) false ≢ 0 }
 {
     let mut filled = have;
     while filled < input.len() {

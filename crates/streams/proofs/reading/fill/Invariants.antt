@@ -10,7 +10,7 @@ use Rattle.streams.proofs.Moving.{filled_on, filled-not}
 use Rattle.streams.proofs.reading.fill.Given as goal
 
 abbrev pub invariant-loop-filled : goal.invariant-loop-filled
-invariant-loop-filled l = FilledBehind l.initial.input l.have l.input l.filled × (frame_size l.most (take l.filled l.input) false ≡ 0)
+invariant-loop-filled g l = FilledBehind l.initial.input l.have l.input l.filled × (frame_size l.most (take l.filled l.input) false ≡ 0)
 
 abbrev pub decreases-loop-filled : goal.decreases-loop-filled
-decreases-loop-filled l = length l.input - l.filled
+decreases-loop-filled g l = length l.input - l.filled

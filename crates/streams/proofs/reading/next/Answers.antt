@@ -3,52 +3,54 @@
 use Rattle.std.proofs.Common.{length, sym, ap, ◌∙◌, arith, rules}
 use Rattle.streams.specs.Places.{written_out}
 use Rattle.streams.specs.declared.place.Place.{Place}
-use Rattle.streams.proofs.Nexts.{by_way, fits, no_room, no_frame, hands_it, hands_then, fails, reads_on}
+use Rattle.streams.proofs.Nexts.{fits, no_room, no_frame, hands_it, hands_then, fails, reads_on}
 use Rattle.streams.proofs.reading.next.Goals as goal
+use Rattle.streams.proofs.reading.next.Goals.{then-size-gt0+else-room-text, else-size-gt0}
 
 pub overflow_add-from : goal.overflow_add-from
-overflow_add-from c =
+overflow_add-from g c =
     let a = c.args in
     omega (arith, c.requires.0.room, fits a.most a.input.now a.at c.requires.0 _ c.frame_size-size.ensures)
 
 pub returns-then-room-text : goal.returns-then-room-text
-returns-then-room-text c =
+returns-then-room-text g c =
     let a = c.args in
     hands_it a.most a.input.now a.at c.requires.0 _ c.frame_size-size.ensures a.room _ _ c.if-size-gt0.true (omega arith) (omega arith) c.at_frame.ensures
 
 pub returns-then-written : goal.returns-then-written
-returns-then-written c =
+returns-then-written g c =
     let a = c.args in
     let pre = c.requires in
     let e = c.frame_size-size.ensures in
-    by_way c.if-size-gt0.branch
-    (λ h. fails a.most a.input.now a.at pre.0 _ e a.room _ _ (no_room a.most a.input.now a.at pre.0 _ e (λ g. omega (arith, g, h.2.left)) pre.2) pre.3 (c.write_out-written.ensures ∙ ap (written_out a.at) c.if-written.true))
-    (λ h. fails a.most a.input.now a.at pre.0 _ e a.room _ _ (no_frame a.most a.input.now a.at pre.0 _ e a.room (length a.text.now) (omega (arith, h.left))) pre.3 (c.write_out-written.ensures ∙ ap (written_out a.at) c.if-written.true))
+    let written = c.write_out-written.ensures ∙ ap (written_out a.at) c.if-written.true in
+    elim c.if-size-gt0.branch [
+      then-size-gt0+else-room-text h ↦ fails a.most a.input.now a.at pre.0 _ e a.room _ _ (no_room a.most a.input.now a.at pre.0 _ e (λ f. omega (arith, f, h.if-room-text.false)) pre.2) pre.3 written
+    | else-size-gt0 h ↦ fails a.most a.input.now a.at pre.0 _ e a.room _ _ (no_frame a.most a.input.now a.at pre.0 _ e a.room (length a.text.now) (omega (arith, h.if-size-gt0.false))) pre.3 written ]
 
 pub overflow_add-from-then-size-gt0-2 : goal.overflow_add-from-then-size-gt0-2
-overflow_add-from-then-size-gt0-2 c =
+overflow_add-from-then-size-gt0-2 g c =
     let a = c.args in
     omega (arith, c.requires.0.room, fits a.most a.input.now a.at c.requires.0 _ c.frame_size-size.ensures)
 
 pub returns-then-size-gt0-2 : goal.returns-then-size-gt0-2
-returns-then-size-gt0-2 c =
+returns-then-size-gt0-2 g c =
     let a = c.args in
     let pre = c.requires in
     let e = c.frame_size-size.ensures in
     let written = c.write_out-written.ensures ∙ ap (written_out a.at) c.if-written.false in
-    by_way c.if-size-gt0.branch
-    (λ h. hands_then a.most a.input.now a.at pre.0 _ e a.room _ _ c.if-size-gt0-2.true (λ g. omega (arith, g, h.2.left)) pre.2 pre.3 _ written c.at_frame-then-size-gt0-2.ensures)
-    (λ h. absurd (omega (arith, h.left, c.if-size-gt0-2.true)))
+    elim c.if-size-gt0.branch [
+      then-size-gt0+else-room-text h ↦ hands_then a.most a.input.now a.at pre.0 _ e a.room _ _ c.if-size-gt0-2.true (λ f. omega (arith, f, h.if-room-text.false)) pre.2 pre.3 _ written c.at_frame-then-size-gt0-2.ensures
+    | else-size-gt0 h ↦ absurd (omega (arith, h.if-size-gt0.false, c.if-size-gt0-2.true)) ]
 
 pub refill-requires : goal.refill-requires
-refill-requires c =
+refill-requires g c =
     let a = c.args in
     let pre = c.requires in
     let written = c.write_out-written.ensures ∙ ap (written_out a.at) c.if-written.false in
     rw written (record { frame = pre.0.frame; read = pre.0.read; room = pre.0.room }, pre.1, sym c.frame_size-size.ensures ∙ omega arith)
 
 pub returns : goal.returns
-returns c =
+returns g c =
     let a = c.args in
     let pre = c.requires in
     let written = c.write_out-written.ensures ∙ ap (written_out a.at) c.if-written.false in

@@ -6,7 +6,7 @@ use Rattle.streams.proofs.Moving.{filled_on, filled-not}
 use Rattle.streams.proofs.reading.read_all.Given as goal
 
 abbrev pub invariant-loop-have : goal.invariant-loop-have
-invariant-loop-have l = FilledBehind l.initial.input 0 l.input l.have
+invariant-loop-have g l = FilledBehind l.initial.input 0 l.input l.have
 
 abbrev pub decreases-loop-have : goal.decreases-loop-have
-decreases-loop-have l = length l.input - l.have
+decreases-loop-have g l = length l.input - l.have

@@ -3,8 +3,8 @@
 use Rattle.std.proofs.Common.{take, arith, length-take-le, take_at, rules}
 use Rattle.streams.proofs.reading.read_more.Goals as goal
 
-pub returns-then-got-lt0 : goal.returns-then-got-lt0
-returns-then-got-lt0 c =
+pub returns-in-Err : goal.returns-in-Err
+returns-in-Err g c =
     let a = c.args in
     record {
       kept = take_at (take a.have a.input.now) _ a.have (length-take-le a.have a.input.now (omega arith));
@@ -13,8 +13,8 @@ returns-then-got-lt0 c =
       most = search rules;
     }
 
-pub returns : goal.returns
-returns c =
+pub returns-in-Ok : goal.returns-in-Ok
+returns-in-Ok g c =
     let a = c.args in
     record {
       kept = take_at (take a.have a.input.now) _ a.have (length-take-le a.have a.input.now (omega arith));
