@@ -1,6 +1,6 @@
 -- Bytes moved to the front of a buffer, and read behind.
 -- Assumes nothing.
-use Rattle.std.proofs.Common.{◌≡◌, ℕ, suc, ◌+◌, ◌-◌, ◌<◌, ◌≤◌, List, [], ◌∷◌, ◌++◌, length, get_or, take, drop, set, sym, refl, ap, ◌∙◌, append_assoc, add_comm, arith, length-drop, length-take-le, get_or-drop, drop-cons, take-suc, take-take, get_or-append-add}
+use Rattle.std.proofs.Common.{◌≡◌, ℕ, suc, ◌+◌, ◌<◌, ◌≤◌, List, ◌++◌, length, get_or, take, drop, set, sym, ap, ◌∙◌, append_assoc, add_comm, arith, length-drop, length-take-le, get_or-drop, drop-cons, take-suc, take-take, get_or-append-add}
 use lib.Seq.{set_at}
 use Rattle.streams.specs.Places.{FilledBehind}
 

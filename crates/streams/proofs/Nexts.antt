@@ -1,6 +1,6 @@
 -- The next place: at a frame that is there whole, and after more was read.
 -- Assumes nothing.
-use Rattle.std.proofs.Common.{◌≡◌, ℕ, ◌+◌, ◌-◌, ◌<◌, ◌≤◌, Bool, true, false, cond, ◌&&◌, ltb, leb, ◌⊎◌, List, [], ◌++◌, length, take, drop, sym, refl, ap, ◌∙◌, inl, inr, arith, length-drop, length-take-le, take-take, take_at, ltb-false, ltb-true, le-ltb, lt-ltb, le-leb}
+use Rattle.std.proofs.Common.{◌≡◌, ℕ, ◌+◌, ◌-◌, ◌<◌, ◌≤◌, Bool, true, false, ◌&&◌, ltb, leb, List, [], length, take, drop, sym, refl, ap, ◌∙◌, arith, length-drop, length-take-le, take-take, take_at, ltb-false, ltb-true, le-ltb, lt-ltb, le-leb}
 use mathlib.Core.Bool.{false≢true}
 use native.Mathlib.Nat.{sub-zero}
 use lib.Seq.{take-nil, take-length}
@@ -9,14 +9,9 @@ use Rattle.laws.proofs.Tests.{by_test}
 use Rattle.laws.proofs.Lists.{none-long}
 use Rattle.frames.specs.Frames.{frame_size}
 use Rattle.frames.proofs.Kept.{size-within, size-some}
-use Rattle.streams.specs.Places.{at_frame, at_end, unreadable, written_out, Within, between, from_frame, unread, FilledBehind, Hands, Came, is_there, Next}
+use Rattle.streams.specs.Places.{at_frame, at_end, unreadable, written_out, Within, between, unread, FilledBehind, Came, is_there, Next}
 use Rattle.streams.proofs.Moving.{moved}
 use Rattle.streams.specs.declared.place.Place.{Place}
-
--- past a test of two parts
-pub by_way : {A B P : Type 0} → A ⊎ B → (A → P) → (B → P) → P
-by_way (inl a) f g = f a
-by_way (inr b) f g = g b
 
 and-false : (t : Bool) → (t && false) ≡ false
 and-false true = refl

@@ -1,12 +1,9 @@
 -- `streams::reading::fill` meets its contract: the bytes stay within the input, those that were there stay, and each turn adds one at
 -- least. No turn begins with a whole frame, so a full input is none that is waited for.
 -- Assumes nothing.
-use Rattle.std.proofs.Common.{◌≡◌, ℕ, ◌+◌, ◌-◌, false, List, length, take, sym, refl, ap, ◌∙◌, arith, length-take-le, take_all, rules}
-use mathlib.Core.Bool.{false≢true}
+use Rattle.std.proofs.Common.{◌≡◌, ◌-◌, false, length, take}
 use Rattle.frames.specs.Frames.{frame_size}
-use Rattle.frames.proofs.Kept.{size-full}
 use Rattle.streams.specs.Places.{FilledBehind}
-use Rattle.streams.proofs.Moving.{filled_on, filled-not}
 use Rattle.streams.proofs.reading.fill.Given as goal
 
 abbrev pub invariant-loop-filled : goal.invariant-loop-filled

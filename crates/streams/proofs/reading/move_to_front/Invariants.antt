@@ -1,7 +1,7 @@
 -- `streams::reading::move_to_front` meets its contract: byte by byte. The invariant: the first i are moved, and the others are as they were.
 -- Assumes nothing.
-use Rattle.std.proofs.Common.{◌≡◌, ◌+◌, ◌-◌, ◌≤◌, ◌++◌, length, refl, add-one, arith, length-set, rules}
-use Rattle.streams.proofs.Moving.{moved, move_turn}
+use Rattle.std.proofs.Common.{◌≡◌, ◌-◌, ◌≤◌, length}
+use Rattle.streams.proofs.Moving.{moved}
 use Rattle.streams.proofs.reading.move_to_front.Given as goal
 
 abbrev pub invariant-loop-i : goal.invariant-loop-i

@@ -1,6 +1,6 @@
 -- `streams::reading::next` meets its contract: a frame that is there, or one that comes after the text was written.
 -- Assumes nothing.
-use Rattle.std.proofs.Common.{length, sym, ap, ◌∙◌, arith, rules}
+use Rattle.std.proofs.Common.{length, sym, ap, ◌∙◌, arith}
 use Rattle.streams.specs.Places.{written_out}
 use Rattle.streams.specs.declared.place.Place.{Place}
 use Rattle.streams.proofs.Nexts.{fits, no_room, no_frame, hands_it, hands_then, fails, reads_on}
@@ -24,8 +24,9 @@ returns-then-written g c =
     let e = c.frame_size-size.ensures in
     let written = c.write_out-written.ensures ∙ ap (written_out a.at) c.if-written.true in
     elim c.if-size-gt0.branch [
-      then-size-gt0+else-room-text h ↦ fails a.most a.input.now a.at pre.0 _ e a.room _ _ (no_room a.most a.input.now a.at pre.0 _ e (λ f. omega (arith, f, h.if-room-text.false)) pre.2) pre.3 written
-    | else-size-gt0 h ↦ fails a.most a.input.now a.at pre.0 _ e a.room _ _ (no_frame a.most a.input.now a.at pre.0 _ e a.room (length a.text.now) (omega (arith, h.if-size-gt0.false))) pre.3 written ]
+      | then-size-gt0+else-room-text h ↦ fails a.most a.input.now a.at pre.0 _ e a.room _ _ (no_room a.most a.input.now a.at pre.0 _ e (λ f. omega (arith, f, h.if-room-text.false)) pre.2) pre.3 written
+      | else-size-gt0 h ↦ fails a.most a.input.now a.at pre.0 _ e a.room _ _ (no_frame a.most a.input.now a.at pre.0 _ e a.room (length a.text.now) (omega (arith, h.if-size-gt0.false))) pre.3 written
+    ]
 
 pub overflow_add-from-then-size-gt0-2 : goal.overflow_add-from-then-size-gt0-2
 overflow_add-from-then-size-gt0-2 g c =
@@ -39,8 +40,9 @@ returns-then-size-gt0-2 g c =
     let e = c.frame_size-size.ensures in
     let written = c.write_out-written.ensures ∙ ap (written_out a.at) c.if-written.false in
     elim c.if-size-gt0.branch [
-      then-size-gt0+else-room-text h ↦ hands_then a.most a.input.now a.at pre.0 _ e a.room _ _ c.if-size-gt0-2.true (λ f. omega (arith, f, h.if-room-text.false)) pre.2 pre.3 _ written c.at_frame-then-size-gt0-2.ensures
-    | else-size-gt0 h ↦ absurd (omega (arith, h.if-size-gt0.false, c.if-size-gt0-2.true)) ]
+      | then-size-gt0+else-room-text h ↦ hands_then a.most a.input.now a.at pre.0 _ e a.room _ _ c.if-size-gt0-2.true (λ f. omega (arith, f, h.if-room-text.false)) pre.2 pre.3 _ written c.at_frame-then-size-gt0-2.ensures
+      | else-size-gt0 h ↦ absurd (omega (arith, h.if-size-gt0.false, c.if-size-gt0-2.true))
+    ]
 
 pub refill-requires : goal.refill-requires
 refill-requires g c =

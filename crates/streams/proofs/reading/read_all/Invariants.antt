@@ -1,8 +1,7 @@
 -- `streams::reading::read_all` meets its contract: each turn adds one byte at least.
 -- Assumes nothing.
-use Rattle.std.proofs.Common.{◌-◌, length, refl, arith, rules}
+use Rattle.std.proofs.Common.{◌-◌, length}
 use Rattle.streams.specs.Places.{FilledBehind}
-use Rattle.streams.proofs.Moving.{filled_on, filled-not}
 use Rattle.streams.proofs.reading.read_all.Given as goal
 
 abbrev pub invariant-loop-have : goal.invariant-loop-have
