@@ -9,7 +9,10 @@ use set_state::LineSet;
 use streams::Place;
 
 // One set for the whole run: it lies here, and is lent to each entry in turn.
-fn main() {
+fn main(rt: HostRuntime) {
+    let mut reader = rt.stdin();
+    let mut writer = rt.stdout();
+    let mut errors = rt.stderr();
     let mut set = LineSet::new();
     let mut input = [0u8; 131072];
     let mut records = [0u8; 32768];
@@ -17,7 +20,7 @@ fn main() {
     let mut at = Place::new();
     let mut left = u64::MAX;
     while left > 0 {
-        at = turns::next_entry(at, &mut input, &text);
+        at = turns::next_entry(&mut reader, &mut writer, &mut errors, at, &mut input, &text);
         if !at.going {
             break;
         }
@@ -30,5 +33,5 @@ fn main() {
         }
         left -= 1;
     }
-    streams::write_out(at, &text);
+    streams::write_out(&mut writer, &mut errors, at, &text);
 }

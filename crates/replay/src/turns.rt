@@ -6,17 +6,34 @@ ghost use Rattle.streams.specs.Places.{Within, Next};
 ghost use Rattle.feeds.specs.Turns.{shown};
 
 use set_state::Reply;
+use std::io::{Read, Write};
 use streams::Place;
 
 // No entry has more bytes behind its length.
 const LONGEST: usize = 12000;
 
 // The entry behind this one, or a place that is not going where there is none.
-pub fn next_entry(at: Place, input: &mut [u8], text: &[u8]) -> Place
+pub fn next_entry<R: Read, W: Write, E: Write>(
+    reader: &mut R,
+    writer: &mut W,
+    errors: &mut E,
+    at: Place,
+    input: &mut [u8],
+    text: &[u8],
+) -> Place
     requires { Within input.old at × (12002 ≤ length input.old) × (at.waits ≤ length text.now) × (73776 ≤ length text.now) }
     ensures { Next 12000 73776 (length text.now) input.old at input.new result }
 {
-    streams::next(at, LONGEST, answer_lines::ROOM, input, text)
+    streams::next(
+        reader,
+        writer,
+        errors,
+        at,
+        LONGEST,
+        answer_lines::ROOM,
+        input,
+        text,
+    )
 }
 
 // Puts the answer to an entry behind the text that waits. After one that is refused with 1 the program is to stop.

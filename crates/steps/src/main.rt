@@ -8,10 +8,12 @@ mod argument;
 mod rounds;
 
 use rounds::Round;
+use std::env::Env;
+use std::io::{Read, Write};
 use streams::Place;
 
 // Writes the line of a round.
-fn print(round: Round) {
+fn print<W: Write, E: Write>(writer: &mut W, errors: &mut E, round: Round) {
     let mut text = [0u8; 64];
     let waits = rounds::put_round(round, &mut text);
     let at = Place {
@@ -24,27 +26,43 @@ fn print(round: Round) {
         number: 0,
         waits,
     };
-    streams::write_out(at, &text);
+    streams::write_out(writer, errors, at, &text);
 }
 
 // Reads the whole feed before the first round. Of one that is larger than the room only that much is stepped.
-fn step_input(room: &mut [u8], rounds: u64, buffer: &mut [u8]) -> Round {
-    let size = streams::read_all(room);
+fn step_input<R: Read, E: Write>(
+    reader: &mut R,
+    errors: &mut E,
+    room: &mut [u8],
+    rounds: u64,
+    buffer: &mut [u8],
+) -> Round {
+    let size = streams::read_all(reader, errors, room);
     rounds::last_round(&room[..size], rounds, buffer)
 }
 
 // The room goes through a parameter of its own type, so that its length is known by that: to count 4,194,304 zeros takes
 // the check more memory than it has.
-fn step_large(room: &mut [u8; 4194304], rounds: u64, buffer: &mut [u8]) -> Round {
-    step_input(room, rounds, buffer)
+fn step_large<R: Read, E: Write>(
+    reader: &mut R,
+    errors: &mut E,
+    room: &mut [u8; 4194304],
+    rounds: u64,
+    buffer: &mut [u8],
+) -> Round {
+    step_input(reader, errors, room, rounds, buffer)
 }
 
 // The buffer is lent to C first, for the argument: the compiler then can't know that nobody reads what the steps write
 // to it, and drop that.
-fn main() {
+fn main(rt: HostRuntime) {
+    let mut errors = rt.stderr();
     let mut room = [0u8; 4194304];
     let mut buffer = [0u8; 32768];
-    let n = os::arg(1, &mut buffer);
-    let rounds = argument::rounds(&buffer[..n]);
-    print(step_large(&mut room, rounds, &mut buffer));
+    let rounds = match Env::arg(&rt, 1, &mut buffer) {
+        Ok(n) => argument::rounds(&buffer[..n]),
+        Err(_) => argument::rounds(&[]),
+    };
+    let round = step_large(&mut rt.stdin(), &mut errors, &mut room, rounds, &mut buffer);
+    print(&mut rt.stdout(), &mut errors, round);
 }

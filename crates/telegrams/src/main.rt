@@ -10,17 +10,25 @@ ghost use Rattle.text.specs.Written.{Puts};
 ghost use Rattle.streams.specs.Places.{Within, Next};
 ghost use Rattle.telegrams.specs.Lines.{whole, frame_line, shown};
 
+use std::io::{Read, Write};
 use streams::Place;
 
 // Two bytes count no more.
 const LONGEST: usize = 65535;
 
 // The frame behind this one, or a place that is not going where there is none.
-fn next_frame(at: Place, input: &mut [u8], text: &[u8]) -> Place
+fn next_frame<R: Read, W: Write, E: Write>(
+    reader: &mut R,
+    writer: &mut W,
+    errors: &mut E,
+    at: Place,
+    input: &mut [u8],
+    text: &[u8],
+) -> Place
     requires { Within input.old at × (65537 ≤ length input.old) × (at.waits ≤ length text.now) × (64 ≤ length text.now) }
     ensures { Next 65535 64 (length text.now) input.old at input.new result }
 {
-    streams::next(at, LONGEST, line::ROOM, input, text)
+    streams::next(reader, writer, errors, at, LONGEST, line::ROOM, input, text)
 }
 
 // Puts the line for a frame behind the text that waits. After one that breaks off the program is to stop.
@@ -45,13 +53,16 @@ fn show(at: Place, frame: &[u8], text: &mut [u8]) -> Place
     }
 }
 
-fn main() {
+fn main(rt: HostRuntime) {
+    let mut reader = rt.stdin();
+    let mut writer = rt.stdout();
+    let mut errors = rt.stderr();
     let mut input = [0u8; 131072];
     let mut text = [0u8; 65536];
     let mut at = Place::new();
     let mut left = u64::MAX;
     while left > 0 {
-        at = next_frame(at, &mut input, &text);
+        at = next_frame(&mut reader, &mut writer, &mut errors, at, &mut input, &text);
         if !at.going {
             break;
         }
@@ -63,5 +74,5 @@ fn main() {
         }
         left -= 1;
     }
-    streams::write_out(at, &text);
+    streams::write_out(&mut writer, &mut errors, at, &text);
 }
