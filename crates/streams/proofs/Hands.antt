@@ -1,7 +1,7 @@
 -- What a program that goes from frame to frame reads of its input.
 -- Assumes nothing.
-use Rattle.std.proofs.Common.{◌≡◌, ℕ, zero, suc, ◌+◌, ◌-◌, ◌<◌, ◌≤◌, Bool, true, false, not, ◌&&◌, ltb, List, [], ◌∷◌, ◌++◌, length, take, drop, sym, refl, ap, ◌∙◌, append_assoc, append-nil, arith, length-append, take-append-drop, take-take, drop-drop, ltb-false, ltb-true}
-use lib.Seq.{take-nil, take-append-le, drop-append-le}
+use Rattle.std.proofs.Common.{◌≡◌, ℕ, ◌+◌, ◌-◌, ◌<◌, ◌≤◌, Bool, true, false, not, ◌&&◌, ltb, List, [], ◌++◌, length, take, drop, sym, refl, ap, ◌∙◌, append_assoc, append-nil, arith, length-append, take-append-drop, take-take, drop-drop, ltb-false, ltb-true}
+use lib.Seq.{take-append-le, drop-append-le}
 use borrow.Author.Tests.{not-true}
 use Rattle.laws.proofs.Tests.{by_test, both}
 use Rattle.laws.proofs.Lists.{none-long}
@@ -9,13 +9,8 @@ use Rattle.frames.specs.Frames.{frame_size}
 use Rattle.frames.proofs.Kept.{size-within, size-some, size-stays}
 use Rattle.streams.specs.Places.{Within, frame_at, from_frame, unread, Hands, Next}
 use Rattle.streams.specs.Promises.{came, HandsFirst, NothingLeft}
+use Rattle.streams.proofs.Moving.{drop-take}
 use Rattle.streams.specs.declared.place.Place.{Place}
-
-drop-take : (s n : ℕ) (l : List ℕ) → drop s (take n l) ≡ take (n - s) (drop s l)
-drop-take zero n l = let e : n ≡ n - 0 = omega arith in ap (λ (k : ℕ). take k l) e
-drop-take (suc s) zero l = let e : 0 ≡ 0 - suc s = omega arith in ap (λ (k : ℕ). take k (drop (suc s) l)) e
-drop-take (suc s) (suc n) [] = sym (take-nil (suc n - suc s))
-drop-take (suc s) (suc n) (x ∷ xs) = let e : n - s ≡ suc n - suc s = omega arith in drop-take s n xs ∙ ap (λ (k : ℕ). take k (drop s xs)) e
 
 -- the bytes read from the frame on are the frame and those behind it
 module _ (b : List ℕ) (r : Place) (w : Within b r) (s : ℕ) (e : r.to ≡ r.from + s) where

@@ -10,7 +10,8 @@ use Rattle.laws.proofs.Lists.{none-long}
 use Rattle.frames.specs.Frames.{frame_size}
 use Rattle.frames.proofs.Kept.{size-within, size-some}
 use Rattle.streams.specs.Places.{at_frame, at_end, unreadable, written_out, Within, between, unread, FilledBehind, Came, is_there, Next}
-use Rattle.streams.proofs.Moving.{moved}
+use Rattle.streams.specs.Promises.{came}
+use Rattle.streams.proofs.Moving.{moved, drop-take}
 use Rattle.streams.specs.declared.place.Place.{Place}
 
 and-false : (t : Bool) → (t && false) ≡ false
@@ -147,3 +148,22 @@ module _ (b : List ℕ) (p : Place) (w : Within b p) where
       },
       refl,
     )
+
+    -- the bytes that came are those that were read behind
+    pub came_read : (ended : Bool) (size : ℕ) (r : Place) → r ≡ at_frame p 0 size n ended → came b p b₂ r ≡ between (p.filled - p.to) n b₂
+    came_read ended size r k = rw k (
+        ap (λ (j : ℕ). drop j (between 0 n b₂)) have_long
+        ∙ (ap (λ (j : ℕ). drop (p.filled - p.to) (take j b₂)) (sub-zero n) ∙ drop-take (p.filled - p.to) n b₂)
+        )
+
+    pub came_none : (ended : Bool) (r : Place) → frame_size most (take n b₂) ended ≡ 0 → (ended ≡ false → frame_size most (take n b₂) false ≡ 0 → ⊥)
+        → r ≡ at_end p → came b p b₂ r ≡ between (p.filled - p.to) n b₂
+    came_none false r s g k = absurd (g refl s)
+    came_none true r s g k =
+        let l = length-take-le n b₂ f.most in
+        let none : n ≡ 0 = by_test (ltb 0 n) (λ t. absurd (omega (arith, s, size-some most (take n b₂) (omega (arith, l, ltb-true 0 n t))))) (λ t. omega (arith, ltb-false 0 n t)) in
+        let no-more : 0 ≡ n - (p.filled - p.to) = omega arith in
+        rw k (drop-nil (length (unread b p)) ∙ ap (λ (j : ℕ). take j (drop (p.filled - p.to) b₂)) no-more)
+      where
+        drop-nil : (j : ℕ) → drop j (take 0 (drop 0 b₂)) ≡ []
+        drop-nil j = drop-take j 0 b₂ ∙ (let e : 0 - j ≡ 0 = omega arith in ap (λ (i : ℕ). take i (drop j b₂)) e)

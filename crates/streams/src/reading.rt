@@ -1,8 +1,10 @@
 // The input, frame by frame.
-ghost use Rattle.std.specs.Prelude.{◌≡◌, ◌+◌, ◌≤◌, false, ◌++◌, length, take, drop, ◌≢◌};
+ghost use Rattle.std.specs.Prelude.{◌≡◌, ◌+◌, ◌-◌, ◌≤◌, ◌<◌, true, false, ◌++◌, length, take, drop, ◌≢◌};
 ghost use Rattle.std.specs.Io.{ReadsAtMost};
+ghost use Rattle.std.specs.Io.KnownBytes.{Appends, Consumes, IsAtEnd, ReadConsumes};
 ghost use Rattle.frames.specs.Frames.{frame_size};
-ghost use Rattle.streams.specs.Places.{Within, FilledBehind, Came, Next, unread};
+ghost use Rattle.streams.specs.Places.{Within, FilledBehind, Came, Next, between, unread};
+ghost use Rattle.streams.specs.Promises.{came};
 
 use super::place::Place;
 use super::{place, report, writing};
@@ -30,7 +32,8 @@ struct Got {
 
 // Reads once, and again where a signal came before any byte did.
 fn read_once<R: Read>(reader: &mut R, buf: &mut [u8]) -> io::Result<usize>
-    ensures { ReadsAtMost result buf.new }
+    ensures within { ReadsAtMost result buf.new }
+    ensures bytes { ReadConsumes (R.remaining reader.old) (R.remaining reader.new) result buf.new }
 {
     for _ in 0..u64::MAX {
         match reader.read(buf) {
@@ -53,7 +56,10 @@ fn read_more<R: Read, E: Write>(
     have: usize,
 ) -> Got
     requires { have ≤ length input.old }
-    ensures { FilledBehind input.old have input.new (have + result.count) }
+    ensures behind { FilledBehind input.old have input.new (have + result.count) }
+    ensures bytes { Consumes (R.remaining reader.old) (R.remaining reader.new) (between have (have + result.count) input.new) }
+    ensures none { result.failed ≡ true → result.count ≡ 0 }
+    ensures end { result.failed ≡ false → result.count ≡ 0 → have < length input.new → IsAtEnd (R.remaining reader.new) }
 {
     match read_once(reader, &mut input[have..]) {
         Ok(count) => Got {
@@ -72,7 +78,8 @@ fn read_more<R: Read, E: Write>(
 
 // Reads until the input has ended, cannot be read or has no more room, and gives how many bytes came.
 pub fn read_all<R: Read, E: Write>(reader: &mut R, errors: &mut E, input: &mut [u8]) -> usize
-    ensures { FilledBehind input.old 0 input.new result }
+    ensures filled { FilledBehind input.old 0 input.new result }
+    ensures bytes { Consumes (R.remaining reader.old) (R.remaining reader.new) (take result input.new) }
 {
     let mut have = 0;
     while have < input.len() {
@@ -102,8 +109,10 @@ fn fill<R: Read, E: Write>(
     most: usize,
 ) -> Filling
     requires { (have ≤ length input.old) × (most + 2 ≤ length input.old) × (frame_size most (take have input.old) false ≡ 0) }
-    ensures filled_behind { FilledBehind input.old have input.new result.filled }
+    ensures behind { FilledBehind input.old have input.new result.filled }
     ensures whole { result.ended ≡ false → result.failed ≡ false → frame_size most (take result.filled input.new) false ≢ 0 }
+    ensures bytes { Consumes (R.remaining reader.old) (R.remaining reader.new) (between have result.filled input.new) }
+    ensures end { result.ended ≡ true → IsAtEnd (R.remaining reader.new) }
 {
     let mut filled = have;
     while filled < input.len() {
@@ -143,7 +152,9 @@ fn refill<R: Read, E: Write>(
     input: &mut [u8],
 ) -> Place
     requires { Within input.old at × (most + 2 ≤ length input.old) × (frame_size most (unread input.old at) false ≡ 0) }
-    ensures { Came most input.old at input.new result × (result.waits ≡ at.waits) }
+    ensures next { Came most input.old at input.new result × (result.waits ≡ at.waits) }
+    ensures reads { result.failed ≡ false → Consumes (R.remaining reader.old) (R.remaining reader.new) (came input.old at input.new result) }
+    ensures end { result.ended ≡ true → IsAtEnd (R.remaining reader.new) }
 {
     let from = at.to;
     let have = at.filled - from;
@@ -162,7 +173,9 @@ fn refill<R: Read, E: Write>(
 }
 
 // The frame behind this one, of at most `most` bytes behind its length, or a place that is not going where there is none. The
-// text is written before more is read, and where it has no room for another answer.
+// text is written before more is read, and where it has no room for another answer. Where no call fails and the bytes of the
+// reader and of the writer are known: what comes is what the reader gives, which has no more once the input has ended, and the
+// text that waited is written or still waits.
 pub fn next<R: Read, W: Write, E: Write>(
     reader: &mut R,
     writer: &mut W,
@@ -174,7 +187,10 @@ pub fn next<R: Read, W: Write, E: Write>(
     text: &[u8],
 ) -> Place
     requires { Within input.old at × (most + 2 ≤ length input.old) × (at.waits ≤ length text.now) × (room ≤ length text.now) }
-    ensures { Next most room (length text.now) input.old at input.new result }
+    ensures next { Next most room (length text.now) input.old at input.new result }
+    ensures reads { result.failed ≡ false → Consumes (R.remaining reader.old) (R.remaining reader.new) (came input.old at input.new result) }
+    ensures end { result.failed ≡ false → result.ended ≡ true → IsAtEnd (R.remaining reader.new) }
+    ensures writes { result.failed ≡ false → Appends (W.contents writer.old) (W.contents writer.new) (take (at.waits - result.waits) text.now) }
 {
     let from = at.to;
     let filled = at.filled;

@@ -1,5 +1,6 @@
 // The output.
-ghost use Rattle.std.specs.Prelude.{◌≡◌, ◌≤◌, length};
+ghost use Rattle.std.specs.Prelude.{◌≡◌, ◌≤◌, false, length, take};
+ghost use Rattle.std.specs.Io.KnownBytes.{Appends};
 ghost use Rattle.streams.specs.Places.{written_out};
 
 use super::place::Place;
@@ -14,7 +15,8 @@ pub fn write_out<W: Write, E: Write>(
     text: &[u8],
 ) -> Place
     requires { at.waits ≤ length text.now }
-    ensures { result ≡ written_out at result.failed }
+    ensures place { result ≡ written_out at result.failed }
+    ensures writes { result.failed ≡ false → Appends (W.contents writer.old) (W.contents writer.new) (take at.waits text.now) }
 {
     let waits = at.waits;
     let mut failed = false;

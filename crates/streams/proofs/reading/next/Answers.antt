@@ -12,17 +12,17 @@ overflow_add-from g c =
     let a = c.args in
     omega (arith, c.requires.0.room, fits a.most a.input.now a.at c.requires.0 _ c.frame_size-size.ensures)
 
-pub returns-then-room-text : goal.returns-then-room-text
-returns-then-room-text g c =
+pub returns-then-room-text-clause-next : goal.returns-then-room-text-clause-next
+returns-then-room-text-clause-next g c =
     let a = c.args in
     hands_it a.most a.input.now a.at c.requires.0 _ c.frame_size-size.ensures a.room _ _ c.if-size-gt0.true (omega arith) (omega arith) c.at_frame.ensures
 
-pub returns-then-written : goal.returns-then-written
-returns-then-written g c =
+pub returns-then-written-clause-next : goal.returns-then-written-clause-next
+returns-then-written-clause-next g c =
     let a = c.args in
     let pre = c.requires in
     let e = c.frame_size-size.ensures in
-    let written = c.write_out-written.ensures ∙ ap (written_out a.at) c.if-written.true in
+    let written = c.write_out-written.ensures.place ∙ ap (written_out a.at) c.if-written.true in
     elim c.if-size-gt0.branch [
       | then-size-gt0+else-room-text h ↦ fails a.most a.input.now a.at pre.0 _ e a.room _ _ (no_room a.most a.input.now a.at pre.0 _ e (λ f. omega (arith, f, h.if-room-text.false)) pre.2) pre.3 written
       | else-size-gt0 h ↦ fails a.most a.input.now a.at pre.0 _ e a.room _ _ (no_frame a.most a.input.now a.at pre.0 _ e a.room (length a.text.now) (omega (arith, h.if-size-gt0.false))) pre.3 written
@@ -33,12 +33,12 @@ overflow_add-from-then-size-gt0-2 g c =
     let a = c.args in
     omega (arith, c.requires.0.room, fits a.most a.input.now a.at c.requires.0 _ c.frame_size-size.ensures)
 
-pub returns-then-size-gt0-2 : goal.returns-then-size-gt0-2
-returns-then-size-gt0-2 g c =
+pub returns-then-size-gt0-2-clause-next : goal.returns-then-size-gt0-2-clause-next
+returns-then-size-gt0-2-clause-next g c =
     let a = c.args in
     let pre = c.requires in
     let e = c.frame_size-size.ensures in
-    let written = c.write_out-written.ensures ∙ ap (written_out a.at) c.if-written.false in
+    let written = c.write_out-written.ensures.place ∙ ap (written_out a.at) c.if-written.false in
     elim c.if-size-gt0.branch [
       | then-size-gt0+else-room-text h ↦ hands_then a.most a.input.now a.at pre.0 _ e a.room _ _ c.if-size-gt0-2.true (λ f. omega (arith, f, h.if-room-text.false)) pre.2 pre.3 _ written c.at_frame-then-size-gt0-2.ensures
       | else-size-gt0 h ↦ absurd (omega (arith, h.if-size-gt0.false, c.if-size-gt0-2.true))
@@ -48,13 +48,13 @@ pub refill-requires : goal.refill-requires
 refill-requires g c =
     let a = c.args in
     let pre = c.requires in
-    let written = c.write_out-written.ensures ∙ ap (written_out a.at) c.if-written.false in
+    let written = c.write_out-written.ensures.place ∙ ap (written_out a.at) c.if-written.false in
     rw written (record { frame = pre.0.frame; read = pre.0.read; room = pre.0.room }, pre.1, sym c.frame_size-size.ensures ∙ omega arith)
 
-pub returns : goal.returns
-returns g c =
+pub returns-clause-next : goal.returns-clause-next
+returns-clause-next g c =
     let a = c.args in
     let pre = c.requires in
-    let written = c.write_out-written.ensures ∙ ap (written_out a.at) c.if-written.false in
-    let came = c.refill.ensures in
+    let written = c.write_out-written.ensures.place ∙ ap (written_out a.at) c.if-written.false in
+    let came = c.refill.ensures.next in
     reads_on a.most a.input.now a.at pre.0 _ c.frame_size-size.ensures a.room _ _ c.if-size-gt0-2.false pre.3 (rw written at came.0) (came.1 ∙ ap (λ (q : Place). q.waits) written)
