@@ -37,7 +37,7 @@ module _ (most room long : ℕ) (b : List ℕ) (p : Place) (b' : List ℕ) (r : 
   front_and_came f = ap (λ (l : List ℕ). l ++ came b p b' r) (sym (n.came.hands f).front) ∙ take-append-drop (length (unread b p)) (from_frame b' r)
 
   -- there is a frame where the program goes on
-  going_on : r.going ≡ true → (r.failed ≡ false) × (r.from < r.to)
+  pub going_on : r.going ≡ true → (r.failed ≡ false) × (r.from < r.to)
   going_on g = let t = both (not r.failed) (ltb r.from r.to) (sym n.came.going ∙ g) in (not-true r.failed t.0, ltb-true _ _ t.1)
 
 pub hands-first : HandsFirst

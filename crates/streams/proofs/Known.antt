@@ -8,6 +8,7 @@ use Rattle.laws.proofs.Tests.{by_test}
 use Rattle.frames.specs.Frames.{frame_size}
 use Rattle.text.specs.Written.{written, Puts}
 use Rattle.streams.specs.Places.{from_frame, is_there, Next}
+use Rattle.streams.proofs.Hands.{going_on}
 use Rattle.streams.specs.declared.place.Place.{Place}
 
 -- ---- what a reader gives
@@ -30,6 +31,10 @@ module _ {most room long : ℕ} {b : List ℕ} {p : Place} {b' : List ℕ} {r : 
   -- text that waited is written, or still waits
   pub sends_on : (text : List ℕ) → take (p.waits - r.waits) text ++ take r.waits text ≡ take p.waits text
   sends_on text = split-there (is_there most b p && leb (p.waits + room) long) p.waits r.waits text n.waits
+
+  -- no call failed where the program goes on
+  pub unfailed : r.going ≡ true → r.failed ≡ false
+  unfailed g = (going_on most room long b p b' r n g).0
 
   -- where there is no frame, and no call failed, the input has ended
   pub has_ended : r.failed ≡ false → r.going ≡ false → r.ended ≡ true

@@ -1,5 +1,5 @@
 mod LineLaws
-mod Places
 mod TurnLaws
+mod RunLaws
 mod Samples
 pub mod Kept

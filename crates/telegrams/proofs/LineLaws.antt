@@ -9,7 +9,7 @@ use native.Mathlib.Omega.{arith}
 use lib.Dec.{eqb, leb}
 use lib.ListN.{length, take, drop, length-drop, length-append}
 use lib.Seq.{sets, drop-drop, drop-length, sets-eq}
-use borrow.Author.Tests.{le-leb, eqb-true}
+use borrow.Author.Tests.{le-leb, eq-eqb, ne_eqb}
 use borrow.Rule.Slice.PartMut.{put_mid}
 use Rattle.laws.proofs.Lists.{part_to_end}
 use Rattle.frames.specs.Bytes.{word}
@@ -94,20 +94,19 @@ line-short s = go (read_telegram s) refl
 
 -- ---- the line of a frame, whose length says w
 
-pub has-length : (f : List ℕ) (w : ℕ) → eqb (w + 2) (length f) ≡ true → 2 ≤ length f
-has-length f w t = omega (arith, eqb-true (w + 2) (length f) t)
-
 pub shown-whole : (p : Place) (f : List ℕ) (w waits : ℕ) → w ≡ word f 0 → shown p (eqb (w + 2) (length f)) waits ≡ shown p (whole f) waits
 shown-whole p f w waits e = ap (λ (n : ℕ). shown p (eqb (n + 2) (length f)) waits) e
 
 module _ (f : List ℕ) (w : ℕ) (e : w ≡ word f 0) (b : List ℕ) (at : ℕ) (h : at + 64 ≤ length b) where
-  pub whole_put : {b₁ : List ℕ} {r : ℕ} → eqb (w + 2) (length f) ≡ true → Puts b at (answer_line (take (length f - 2) (drop 2 f))) b₁ r → (r ≤ length b₁) × Puts b at (frame_line f) b₁ r
+  pub whole_put : {b₁ : List ℕ} {r : ℕ} → w + 2 ≡ length f → Puts b at (answer_line (take (length f - 2) (drop 2 f))) b₁ r → (r ≤ length b₁) × Puts b at (frame_line f) b₁ r
   unfolding frame_line
-  whole_put {b₁} {r} t put =
-      let all : whole f ≡ true = rw e at t in
+  whole_put {b₁} {r} k put =
+      let all : whole f ≡ true = eq-eqb (word f 0 + 2) (length f) (omega (arith, e, k)) in
       let behind : Puts b at (answer_line (drop 2 f)) b₁ r = rw (part_to_end f 2) at put in
       (omega (arith, behind.place, puts-length behind, line-short (drop 2 f), h), rw all behind)
 
-  pub none_put : eqb (w + 2) (length f) ≡ false → (at ≤ length b) × Puts b at (frame_line f) b at
+  pub none_put : (w + 2 ≡ length f → ⊥) → (at ≤ length b) × Puts b at (frame_line f) b at
   unfolding frame_line
-  none_put t = let broken : whole f ≡ false = rw e at t in (omega (arith, h), rw broken (puts_none b at))
+  none_put n =
+      let broken : whole f ≡ false = ne_eqb (word f 0 + 2) (length f) (λ k. n (omega (arith, e, k))) in
+      (omega (arith, h), rw broken (puts_none b at))

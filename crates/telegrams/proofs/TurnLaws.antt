@@ -33,12 +33,12 @@ module _ {w f rest : List ℕ} (h : Begins 65535 w f rest) (e : Bytes w) where
   cut : (take (word w 0 + 2) w ≡ f) × (drop (word w 0 + 2) w ≡ rest)
   cut = let c = size_cuts 65535 w (word_fits w e) in (sym c.0 ∙ h.first, sym c.1 ∙ h.rest)
 
-  lines_first : telegram_lines w ≡ frame_line f ++ telegram_lines rest
+  pub lines_first : telegram_lines w ≡ frame_line f ++ telegram_lines rest
   unfolding telegram_lines lines_of
   lines_first = ap lines_of (first_frame w h.some) ∙ rw (cut.0, cut.1) refl
 
   -- behind one that breaks off there is nothing
-  broken-last : whole f ≡ false → rest ≡ []
+  pub broken-last : whole f ≡ false → rest ≡ []
   broken-last t = by_test (leb (word w 0 + 2) (length w)) (λ i. absurd (true≢false (sym (all (leb-true _ _ i)) ∙ t))) (λ i. none (leb-false _ _ i))
     where
       word-front : word (take (word w 0 + 2) w) 0 ≡ word w 0
@@ -56,7 +56,7 @@ module _ {w f rest : List ℕ} (h : Begins 65535 w f rest) (e : Bytes w) where
 
 -- ---- all turns
 
-lines_none : telegram_lines [] ≡ []
+pub lines_none : telegram_lines [] ≡ []
 unfolding telegram_lines lines_of frames_to
 lines_none = refl
 

@@ -5,7 +5,6 @@ use Rattle.text.specs.Ascii.{ascii}
 use Rattle.text.proofs.Kept.{also}
 use Rattle.telegram.proofs.Kept.{length-telegram, size-most}
 use Rattle.telegrams.specs.Lines.{message_line}
-use borrow.Author.Rules.{rules}
 use Rattle.telegrams.proofs.line.put_telegram.Goals as goal
 
 pub put_byte-requires : goal.put_byte-requires
