@@ -166,7 +166,8 @@ fn refill<R: Read, E: Write>(
     }
     let ended = got.ended;
     let size = frames::frame_size(&input[..filled], most, ended);
-    if size == 0 {
+    let none = size == 0;
+    if none {
         return place::at_end(at);
     }
     place::at_frame(at, 0, size, filled, ended)
@@ -196,7 +197,8 @@ pub fn next<R: Read, W: Write, E: Write>(
     let filled = at.filled;
     let size = frames::frame_size(&input[from..filled], most, false);
     if 0 < size {
-        if room <= text.len() - at.waits {
+        let fits = room <= text.len() - at.waits;
+        if fits {
             return place::at_frame(at, from, from + size, filled, false);
         }
     }

@@ -5,15 +5,15 @@ use Rattle.streams.specs.Places.{written_out}
 use Rattle.streams.specs.declared.place.Place.{Place}
 use Rattle.streams.proofs.Nexts.{fits, no_room, no_frame, hands_it, hands_then, fails, reads_on}
 use Rattle.streams.proofs.reading.next.Goals as goal
-use Rattle.streams.proofs.reading.next.Goals.{then-size-gt0+else-room-text, else-size-gt0}
+use Rattle.streams.proofs.reading.next.Goals.{then-size-gt0+else-fits, else-size-gt0}
 
 pub overflow_add-from : goal.overflow_add-from
 overflow_add-from g c =
     let a = c.args in
     omega (arith, c.requires.0.room, fits a.most a.input.now a.at c.requires.0 _ c.frame_size-size.ensures)
 
-pub returns-then-room-text-clause-next : goal.returns-then-room-text-clause-next
-returns-then-room-text-clause-next g c =
+pub returns-then-fits-clause-next : goal.returns-then-fits-clause-next
+returns-then-fits-clause-next g c =
     let a = c.args in
     hands_it a.most a.input.now a.at c.requires.0 _ c.frame_size-size.ensures a.room _ _ c.if-size-gt0.true (omega arith) (omega arith) c.at_frame.ensures
 
@@ -24,7 +24,7 @@ returns-then-written-clause-next g c =
     let e = c.frame_size-size.ensures in
     let written = c.write_out-written.ensures.place ∙ ap (written_out a.at) c.if-written.true in
     elim c.if-size-gt0.branch [
-      | then-size-gt0+else-room-text h ↦ fails a.most a.input.now a.at pre.0 _ e a.room _ _ (no_room a.most a.input.now a.at pre.0 _ e (λ f. omega (arith, f, h.if-room-text.false)) pre.2) pre.3 written
+      | then-size-gt0+else-fits h ↦ fails a.most a.input.now a.at pre.0 _ e a.room _ _ (no_room a.most a.input.now a.at pre.0 _ e (λ f. omega (arith, f, h.if-fits.false)) pre.2) pre.3 written
       | else-size-gt0 h ↦ fails a.most a.input.now a.at pre.0 _ e a.room _ _ (no_frame a.most a.input.now a.at pre.0 _ e a.room (length a.text.now) (omega (arith, h.if-size-gt0.false))) pre.3 written
     ]
 
@@ -40,7 +40,7 @@ returns-then-size-gt0-2-clause-next g c =
     let e = c.frame_size-size.ensures in
     let written = c.write_out-written.ensures.place ∙ ap (written_out a.at) c.if-written.false in
     elim c.if-size-gt0.branch [
-      | then-size-gt0+else-room-text h ↦ hands_then a.most a.input.now a.at pre.0 _ e a.room _ _ c.if-size-gt0-2.true (λ f. omega (arith, f, h.if-room-text.false)) pre.2 pre.3 _ written c.at_frame-then-size-gt0-2.ensures
+      | then-size-gt0+else-fits h ↦ hands_then a.most a.input.now a.at pre.0 _ e a.room _ _ c.if-size-gt0-2.true (λ f. omega (arith, f, h.if-fits.false)) pre.2 pre.3 _ written c.at_frame-then-size-gt0-2.ensures
       | else-size-gt0 h ↦ absurd (omega (arith, h.if-size-gt0.false, c.if-size-gt0-2.true))
     ]
 

@@ -21,8 +21,8 @@ returns-then-got-clause-next g c =
 pub slice_bounds-frame_size-end-2 : goal.slice_bounds-frame_size-end-2
 slice_bounds-frame_size-end-2 g c = let f = c.fill-got in sym (length-take-le f.result.filled f.new.input f.ensures.behind.most)
 
-pub returns-then-size-eq0-clause-next : goal.returns-then-size-eq0-clause-next
-returns-then-size-eq0-clause-next g c =
+pub returns-then-none-clause-next : goal.returns-then-none-clause-next
+returns-then-none-clause-next g c =
     let a = c.args in
     let f = c.fill-got in
     reads_none a.input.now a.at c.requires.0 a.most _ _ _ c.move_to_front.ensures f.ensures.behind _ _ (sym c.frame_size-size.ensures ∙ omega arith) (λ e. f.ensures.whole e c.if-got.false) c.at_end.ensures
@@ -33,8 +33,8 @@ returns-clause-next g c =
     let f = c.fill-got in
     reads_it a.input.now a.at c.requires.0 a.most _ _ _ c.move_to_front.ensures f.ensures.behind _ _ _ c.frame_size-size.ensures (omega arith) (λ e. f.ensures.whole e c.if-got.false) c.at_frame.ensures
 
-pub returns-then-size-eq0-clause-reads : goal.returns-then-size-eq0-clause-reads
-returns-then-size-eq0-clause-reads g c =
+pub returns-then-none-clause-reads : goal.returns-then-none-clause-reads
+returns-then-none-clause-reads g c =
     let a = c.args in
     let f = c.fill-got in
     let e = came_none a.input.now a.at c.requires.0 a.most _ _ _ c.move_to_front.ensures f.ensures.behind _ _ (sym c.frame_size-size.ensures ∙ omega arith) (λ t. f.ensures.whole t c.if-got.false) c.at_end.ensures in
