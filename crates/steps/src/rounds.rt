@@ -38,7 +38,8 @@ fn step_all(feed: &[u8], buffer: &mut [u8]) -> Round
         if answer.refusal == 0 {
             accepted += 1;
         }
-        if answer.refusal == 1 {
+        let last = answer.refusal == 1;
+        if last {
             break;
         }
     }

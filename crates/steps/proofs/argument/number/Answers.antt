@@ -1,8 +1,7 @@
 -- `steps::argument::number` meets its contract: the number so far, with the digits from the place on, stays the number of the text. A
 -- digit is added only below 100,000,000.
 -- Assumes nothing.
-use Rattle.std.proofs.Common.{◌≡◌, ◌-◌, ◌<◌, ◌≤◌, length, drop, sym, refl, ◌∙◌, arith, rules}
-use Rattle.steps.specs.Rounds.{number_from}
+use Rattle.std.proofs.Common.{sym, refl, ◌∙◌, arith}
 use Rattle.steps.proofs.Digits.{ended, one_more, below, above, full}
 use Rattle.steps.proofs.argument.number.Goals as goal
 

@@ -1,9 +1,8 @@
 -- `steps::argument::number` meets its contract: the number so far, with the digits from the place on, stays the number of the text. A
 -- digit is added only below 100,000,000.
 -- Assumes nothing.
-use Rattle.std.proofs.Common.{◌≡◌, ◌-◌, ◌<◌, ◌≤◌, length, drop, sym, refl, ◌∙◌, arith, rules}
+use Rattle.std.proofs.Common.{◌≡◌, ◌-◌, ◌<◌, ◌≤◌, length, drop}
 use Rattle.steps.specs.Rounds.{number_from}
-use Rattle.steps.proofs.Digits.{ended, one_more, below, above, full}
 use Rattle.steps.proofs.argument.number.Given as goal
 
 abbrev pub invariant-loop-i : goal.invariant-loop-i

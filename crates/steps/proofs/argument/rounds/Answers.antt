@@ -1,6 +1,6 @@
 -- `steps::argument::rounds` meets its contract.
 -- Assumes nothing.
-use Rattle.std.proofs.Common.{length, refl, rules, eq-eqb, ne_eqb}
+use Rattle.std.proofs.Common.{length, refl, eq-eqb, ne_eqb}
 use Rattle.steps.specs.Rounds.{rounds_in}
 use Rattle.steps.proofs.argument.rounds.Goals as goal
 

@@ -1,6 +1,6 @@
 -- `steps::rounds::last_round` meets its contract: before the first round nothing is counted, and after each what a round counts.
 -- Assumes nothing.
-use Rattle.std.proofs.Common.{◌≡◌, ℕ, ◌-◌, ◌≤◌, cond, eqb, length, refl, ap, ◌∙◌, arith, rules, eq-eqb, ne_eqb}
+use Rattle.std.proofs.Common.{◌≡◌, ◌≤◌, cond, eqb, length}
 use Rattle.steps.specs.Rounds.{none, round_of}
 use Rattle.steps.proofs.rounds.last_round.Given as goal
 
