@@ -56,7 +56,8 @@ pub fn put_record(bytes: &[u8], text: &mut [u8], at: usize) -> usize
     if kind == 1 {
         return put_telegram(bytes[3], &bytes[5..], text, at);
     }
-    if kind == 2 {
+    let contact = kind == 2;
+    if contact {
         if 8 <= bytes.len() {
             return put_contact(bytes[3], bytes[5], bytes[6], bytes[7], text, at);
         }

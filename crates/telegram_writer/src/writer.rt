@@ -203,7 +203,8 @@ pub fn write(message: Message, code: u32, buffer: &mut [u8]) -> Written
     ensures value { result ≡ write_answer code message (length buffer.old) }
     ensures buffer_after { buffer.new ≡ write_into code message buffer.old }
 {
-    if 1023 < code {
+    let wide = 1023 < code;
+    if wide {
         return Written::OutOfRange;
     }
     if !in_range(message) {

@@ -21,7 +21,7 @@ long c = kind-there c.args.bytes.now (telegram c)
 
 -- a contact
 contact : (c : After-shared_slice_known-then-bytes-ge8-1) → byte c.args.bytes.now 4 ≡ 2
-contact c = sym c.byte-kind.ensures ∙ c.if-kind-eq2.true
+contact c = sym c.byte-kind.ensures ∙ c.if-contact.true
 
 pub bounds-bytes-3 : goal.bounds-bytes-3
 bounds-bytes-3 c = omega (arith, kind-there c.args.bytes.now (sym c.byte-kind.ensures ∙ c.if-kind-eq1.true))
@@ -53,7 +53,7 @@ returns-then-bytes-ge8 c =
 pub returns-else-bytes-ge8 : goal.returns-else-bytes-ge8
 returns-else-bytes-ge8 c = rw (line_other _ (λ e. c.if-kind-eq1.false (c.byte-kind.ensures ∙ e)) (inr c.if-bytes-ge8.false)) (puts_none _ _)
 
-pub returns-else-kind-eq2 : goal.returns-else-kind-eq2
-returns-else-kind-eq2 c =
+pub returns-else-contact : goal.returns-else-contact
+returns-else-contact c =
     let e = c.byte-kind.ensures in
-    rw (line_other _ (λ f. c.if-kind-eq1.false (e ∙ f)) (inl (λ f. c.if-kind-eq2.false (e ∙ f)))) (puts_none _ _)
+    rw (line_other _ (λ f. c.if-kind-eq1.false (e ∙ f)) (inl (λ f. c.if-contact.false (e ∙ f)))) (puts_none _ _)

@@ -7,8 +7,8 @@ use native.Mathlib.Omega.{arith}
 use Rattle.channel.proofs.Sets.{in_bit, none_above}
 use Rattle.channel.proofs.queries.is_in.Goals as goal
 
-pub returns-then-d-lt8 : goal.returns-then-d-lt8
-returns-then-d-lt8 c = sym (in_bit _ _)
+pub returns-then-there : goal.returns-then-there
+returns-then-there c = sym (in_bit _ _)
 
-pub returns-else-d-lt8 : goal.returns-else-d-lt8
-returns-else-d-lt8 c = let b : c.args.m < 256 = omega arith in sym (none_above 8 _ _ c.if-d-lt8.false b)
+pub returns-else-there : goal.returns-else-there
+returns-else-there c = let b : c.args.m < 256 = omega arith in sym (none_above 8 _ _ c.if-there.false b)

@@ -14,7 +14,7 @@ use Rattle.numerals.specs.Digits.{all_digits, value_from, is_digit, digits_in}
 use Rattle.numerals.specs.declared.digits.Digits.TheVariants.{Malformed}
 use Rattle.numerals.proofs.DigitLaws.{digits_step, digits-stop, digits-done, digits-found, digits_long}
 use Rattle.numerals.proofs.digits.read_digits.Goals as goal
-use Rattle.numerals.proofs.digits.read_digits.Goals.{Else-b-gt57}
+use Rattle.numerals.proofs.digits.read_digits.Goals.{Else-above}
 
 pub returns-then-s-gt9 : goal.returns-then-s-gt9
 returns-then-s-gt9 c = sym (digits_long c.args.s.now c.if-s-gt9.true)
@@ -31,29 +31,29 @@ returns-then-b-lt48 c =
     let l = c.loop-i in
     sym (stop c.args.s.now l.i l.invariant.2 (search rules) (simp (lt-leb _ _ c.if-b-lt48.true)))
 
-pub returns-then-b-gt57 : goal.returns-then-b-gt57
-returns-then-b-gt57 c =
+pub returns-then-above : goal.returns-then-above
+returns-then-above c =
     let l = c.loop-i in
-    sym (stop c.args.s.now l.i l.invariant.2 (search rules) (simp (le-leb _ _ c.if-b-lt48.false, lt-leb _ _ c.if-b-gt57.true)))
+    sym (stop c.args.s.now l.i l.invariant.2 (search rules) (simp (le-leb _ _ c.if-b-lt48.false, lt-leb _ _ c.if-above.true)))
 
 -- at most eight digits have been passed
-small : (c : Else-b-gt57) → c.loop-i.v < 10 ^ 8
+small : (c : Else-above) → c.loop-i.v < 10 ^ 8
 small c =
     let l = c.loop-i in
     let p : 10 ^ l.i ≤ 10 ^ 8 = pow-le-pow_right (omega arith) {i = l.i} {j = 8} (omega arith) in
     omega arith
 
 pub overflow_mul-v : goal.overflow_mul-v
-overflow_mul-v c = omega (arith, small (goal.at.overflow_mul-v c).Else-b-gt57)
+overflow_mul-v c = omega (arith, small (goal.at.overflow_mul-v c).Else-above)
 
 pub overflow_add-v : goal.overflow_add-v
-overflow_add-v c = omega (arith, small (goal.at.overflow_add-v c).Else-b-gt57)
+overflow_add-v c = omega (arith, small (goal.at.overflow_add-v c).Else-above)
 
 pub loop-i-preserved : goal.loop-i-preserved
 loop-i-preserved c =
     let l = c.loop-i in
     let s = c.args.s.now in
-    let d = digits_step s l.i l.v (search rules) (simp (le-leb _ _ c.if-b-lt48.false, le-leb _ _ c.if-b-gt57.false)) in
+    let d = digits_step s l.i l.v (search rules) (simp (le-leb _ _ c.if-b-lt48.false, le-leb _ _ c.if-above.false)) in
     (search rules, rw (add-one, pow-succ') (omega arith), l.invariant.2 ∙ d.0, l.invariant.3 ∙ d.1)
 
 pub returns : goal.returns

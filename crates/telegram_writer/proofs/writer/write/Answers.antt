@@ -8,17 +8,17 @@ use Rattle.telegram.specs.Telegram.{size_of, write_answer, write_into}
 use borrow.Author.Rules.{rules}
 use Rattle.telegram_writer.proofs.writer.write.Goals as goal
 
-pub returns-then-code-gt1023 : goal.returns-then-code-gt1023
+pub returns-then-wide : goal.returns-then-wide
 unfolding write_answer write_into
-returns-then-code-gt1023 c = record {
-  value = simp (lt-leb _ _ c.if-code-gt1023.true);
-  buffer_after = simp (lt-leb _ _ c.if-code-gt1023.true);
+returns-then-wide c = record {
+  value = simp (lt-leb _ _ c.if-wide.true);
+  buffer_after = simp (lt-leb _ _ c.if-wide.true);
 }
 
 pub returns-then-not-in_range : goal.returns-then-not-in_range
 unfolding write_answer write_into
 returns-then-not-in_range c =
-    let o = le-leb _ _ c.if-code-gt1023.false in
+    let o = le-leb _ _ c.if-wide.false in
     let a = sym c.in_range.ensures ∙ c.if-not-in_range.true in
     record { value = simp (o, a); buffer_after = simp (o, a) }
 
@@ -27,7 +27,7 @@ unfolding write_answer write_into
 returns-then-buffer-size c =
     let k = c in
     let g = k.args in
-    let o = le-leb _ _ k.if-code-gt1023.false in
+    let o = le-leb _ _ k.if-wide.false in
     let a = sym k.in_range.ensures ∙ c.if-not-in_range.false in
     let n = lt-leb (size_of g.message) (length g.buffer.now) (omega (arith, c.size.ensures)) in
     record { value = simp (o, a, n); buffer_after = simp (o, a, n) }
@@ -41,7 +41,7 @@ returns c =
     let l = c in
     let k = c in
     let g = k.args in
-    let o = le-leb _ _ k.if-code-gt1023.false in
+    let o = le-leb _ _ k.if-wide.false in
     let a = sym k.in_range.ensures ∙ l.if-not-in_range.false in
     let n = le-leb (size_of g.message) (length g.buffer.now) (omega (arith, l.size.ensures)) in
     let p = c.put.ensures in
