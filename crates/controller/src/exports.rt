@@ -33,7 +33,8 @@ fn step_plain(plain: PlainSet, entry: &[u8], buffer: &mut [u8]) -> Kept
 {
     let set = plain_set::set_in(plain);
     let a = line_set::step(set, entry, buffer);
-    if a.refusal != 0 {
+    let refused = a.refusal != 0;
+    if refused {
         return Kept {
             set: plain,
             count: a.count,
@@ -72,7 +73,8 @@ pub extern "C" fn imjauska_set_align() -> usize
 pub extern "C" fn imjauska_is_current(saved: &[u8]) -> u8
     ensures { result ≡ flag_of (is_current saved.now) }
 {
-    if saved.len() != 1208 {
+    let other = saved.len() != 1208;
+    if other {
         return 0;
     }
     if saved[0] != b'I' {
@@ -84,7 +86,8 @@ pub extern "C" fn imjauska_is_current(saved: &[u8]) -> u8
     if saved[2] != b'J' {
         return 0;
     }
-    if saved[3] == 2 { 1 } else { 0 }
+    let current = saved[3] == 2;
+    if current { 1 } else { 0 }
 }
 
 // Makes a new set, without a plan, in the caller's memory.

@@ -56,7 +56,8 @@ fn read_press(entry: &[u8]) -> Entry
         return refused(3);
     }
     let on = entry[6];
-    if 1 < on {
+    let unknown = 1 < on;
+    if unknown {
         return refused(3);
     }
     asks(2, entry[4], entry[5], on)
@@ -186,7 +187,8 @@ pub fn read_entry(entry: &[u8]) -> Entry
     if !is_measured(entry) {
         return refused(1);
     }
-    if entry[2] != 1 {
+    let other = entry[2] != 1;
+    if other {
         return refused(2);
     }
     read_payload(entry[3], entry)

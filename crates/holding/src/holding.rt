@@ -60,14 +60,16 @@ pub fn capture(listeners: u8, d: u8, channel: Channel) -> Moved
     let holder = channel.holder;
     match holder {
         Party::Nobody => {
-            if 0 < channel.ring {
+            let rings = 0 < channel.ring;
+            if rings {
                 replied(d, 1, channel)
             } else {
                 captured(listeners, d, channel)
             }
         }
         Party::By(h) => {
-            if h == d {
+            let own = h == d;
+            if own {
                 replied(d, 0, channel)
             } else {
                 replied(d, 1, channel)

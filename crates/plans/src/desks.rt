@@ -37,14 +37,16 @@ fn read_desk(s: &[u8]) -> DeskRead
     ensures { result ≡ desk_in s.now }
 {
     let code = frames::word(s);
-    if 1023 < code {
+    let wide = 1023 < code;
+    if wide {
         return DeskRead::Bad;
     }
     let d = numerals::read_digits(&s[2..10]);
     let Digits::Value(digits) = d else {
         return DeskRead::Bad;
     };
-    if digits == 0 {
+    let none = digits == 0;
+    if none {
         return DeskRead::Bad;
     }
     let number = Number::new(digits);

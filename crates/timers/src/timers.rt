@@ -19,7 +19,8 @@ pub fn falls(channel: Channel) -> Falling
     }
     let presser = channel.presser;
     let arrival = channel.arrival;
-    if is_held(presser) | is_present(arrival) {
+    let talks = is_held(presser) | is_present(arrival);
+    if talks {
         return Falling::Still;
     }
     if 0 < channel.quiet {

@@ -18,8 +18,8 @@ use Rattle.controller.proofs.exports.step_plain.Goals as goal
 abbrev kept : PlainSet → Answer → Kept
 kept p a = record { set = cond (eqb a.refusal 0) (plain_of p.layout a.set) p; count = a.count; refusal = a.refusal }
 
-pub returns-then-a-ne0 : goal.returns-then-a-ne0
-returns-then-a-ne0 c =
+pub returns-then-refused : goal.returns-then-refused
+returns-then-refused c =
     let st = c in
     let p = st.args.plain in
     let e = st.args.entry.now in
@@ -29,7 +29,7 @@ returns-then-a-ne0 c =
     let i = c.set_in-set.ensures in
     record {
       answer =
-          ap (λ (t : Bool). record { set = cond t (plain_of p.layout a.set) p; count = a.count; refusal = a.refusal }) (sym (ne_eqb a.refusal 0 c.if-a-ne0.true))
+          ap (λ (t : Bool). record { set = cond t (plain_of p.layout a.set) p; count = a.count; refusal = a.refusal }) (sym (ne_eqb a.refusal 0 c.if-refused.true))
           ∙ ap (kept p) (f.answer ∙ ap (λ (s : LineSet). answer_of (step_of s e (length b))) i);
       bytes = f.bytes ∙ ap (λ (s : LineSet). over (step_of s e (length b)).bytes b) i;
     }
@@ -46,7 +46,7 @@ returns c =
     record {
       answer =
           ap (λ (q : PlainSet). record { set = q; count = a.count; refusal = a.refusal }) c.plain_of-after.ensures
-          ∙ (ap (λ (t : Bool). record { set = cond t (plain_of p.layout a.set) p; count = a.count; refusal = a.refusal }) (sym (eq-eqb a.refusal 0 c.if-a-ne0.false))
+          ∙ (ap (λ (t : Bool). record { set = cond t (plain_of p.layout a.set) p; count = a.count; refusal = a.refusal }) (sym (eq-eqb a.refusal 0 c.if-refused.false))
           ∙ ap (kept p) (f.answer ∙ ap (λ (s : LineSet). answer_of (step_of s e (length b))) i));
       bytes = f.bytes ∙ ap (λ (s : LineSet). over (step_of s e (length b)).bytes b) i;
     }

@@ -26,10 +26,10 @@ returns-then-not-is_measured c = rw (sym c.is_measured.ensures ∙ c.if-not-is_m
 pub bounds-entry-2 : goal.bounds-entry-2
 bounds-entry-2 c = omega (arith, long c.args.entry.now (sym c.is_measured.ensures ∙ c.if-not-is_measured.false))
 
-pub returns-then-entry-ne1 : goal.returns-then-entry-ne1
+pub returns-then-other : goal.returns-then-other
 unfolding read_entry
-returns-then-entry-ne1 c =
-    rw (sym c.is_measured.ensures ∙ c.if-not-is_measured.false, ne_eqb _ _ c.if-entry-ne1.true) c.refused-then-entry-ne1.ensures
+returns-then-other c =
+    rw (sym c.is_measured.ensures ∙ c.if-not-is_measured.false, ne_eqb _ _ c.if-other.true) c.refused-then-other.ensures
 
 pub bounds-entry-3 : goal.bounds-entry-3
 bounds-entry-3 c = omega (arith, long c.args.entry.now (sym c.is_measured.ensures ∙ c.if-not-is_measured.false))
@@ -37,4 +37,4 @@ bounds-entry-3 c = omega (arith, long c.args.entry.now (sym c.is_measured.ensure
 pub returns : goal.returns
 unfolding read_entry payload_in
 returns c =
-    rw (sym c.is_measured.ensures ∙ c.if-not-is_measured.false, eq-eqb _ _ c.if-entry-ne1.false) c.read_payload.ensures
+    rw (sym c.is_measured.ensures ∙ c.if-not-is_measured.false, eq-eqb _ _ c.if-other.false) c.read_payload.ensures

@@ -10,10 +10,10 @@ pub returns-then-entry-ne7 : goal.returns-then-entry-ne7
 unfolding pick payload_in
 returns-then-entry-ne7 c = simp (ne_eqb _ _ c.if-entry-ne7.true) c.refused.ensures
 
-pub returns-then-on-gt1 : goal.returns-then-on-gt1
+pub returns-then-unknown : goal.returns-then-unknown
 unfolding pick payload_in
-returns-then-on-gt1 c = simp (eq-eqb _ _ c.if-entry-ne7.false, lt-leb _ _ c.if-on-gt1.true) c.refused-then-on-gt1.ensures
+returns-then-unknown c = simp (eq-eqb _ _ c.if-entry-ne7.false, lt-leb _ _ c.if-unknown.true) c.refused-then-unknown.ensures
 
 pub returns : goal.returns
 unfolding pick payload_in
-returns c = simp (eq-eqb _ _ c.if-entry-ne7.false, le-leb _ _ c.if-on-gt1.false) c.asks.ensures
+returns c = simp (eq-eqb _ _ c.if-entry-ne7.false, le-leb _ _ c.if-unknown.false) c.asks.ensures

@@ -8,18 +8,18 @@ use Rattle.holding.proofs.holding.capture.Goals as goal
 pub enum_told-1 : goal.enum_told-1
 enum_told-1 c = search rules
 
-pub returns-then-channel-gt0 : goal.returns-then-channel-gt0
+pub returns-then-rings : goal.returns-then-rings
 unfolding capture
-returns-then-channel-gt0 c = simp (c.in-Nobody.is, lt-ltb _ _ c.if-channel-gt0.true) c.replied.ensures
+returns-then-rings c = simp (c.in-Nobody.is, lt-ltb _ _ c.if-rings.true) c.replied.ensures
 
-pub returns-else-channel-gt0 : goal.returns-else-channel-gt0
+pub returns-else-rings : goal.returns-else-rings
 unfolding capture
-returns-else-channel-gt0 c = simp (c.in-Nobody.is, le-ltb _ _ c.if-channel-gt0.false) c.captured.ensures
+returns-else-rings c = simp (c.in-Nobody.is, le-ltb _ _ c.if-rings.false) c.captured.ensures
 
-pub returns-then-h-d : goal.returns-then-h-d
+pub returns-then-own : goal.returns-then-own
 unfolding capture
-returns-then-h-d c = simp (c.in-By.is, eq-eqb _ _ c.if-h-d.true) c.replied-then-h-d.ensures
+returns-then-own c = simp (c.in-By.is, eq-eqb _ _ c.if-own.true) c.replied-then-own.ensures
 
-pub returns-else-h-d : goal.returns-else-h-d
+pub returns-else-own : goal.returns-else-own
 unfolding capture
-returns-else-h-d c = simp (c.in-By.is, ne_eqb _ _ c.if-h-d.false) c.replied-else-h-d.ensures
+returns-else-own c = simp (c.in-By.is, ne_eqb _ _ c.if-own.false) c.replied-else-own.ensures

@@ -25,9 +25,9 @@ eight s h =
     let l : 8 ≤ length (drop 2 s) = simp length-drop (omega arith) in
     rw (length-take-le 8 (drop 2 s) l) (omega arith)
 
-pub returns-then-code-gt1023 : goal.returns-then-code-gt1023
-returns-then-code-gt1023 c =
-    let k : leb (word c.args.s.now 0) 1023 ≡ false = rw c.word-code.ensures at (lt-leb _ _ c.if-code-gt1023.true) in
+pub returns-then-wide : goal.returns-then-wide
+returns-then-wide c =
+    let k : leb (word c.args.s.now 0) 1023 ≡ false = rw c.word-code.ensures at (lt-leb _ _ c.if-wide.true) in
     simp k
 
 pub enum_told-1 : goal.enum_told-1
@@ -37,24 +37,24 @@ pub returns-in_default : goal.returns-in_default
 returns-in_default c =
     let st = c in
     let s = st.args.s.now in
-    let k : leb (word s 0) 1023 ≡ true = rw c.word-code.ensures at (le-leb _ _ c.if-code-gt1023.false) in
+    let k : leb (word s 0) 1023 ≡ true = rw c.word-code.ensures at (le-leb _ _ c.if-wide.false) in
     let d : all_digits (digits s) ≡ false = malformed_found (digits s) (eight s st.requires) (sym c.read_digits-d.ensures ∙ c.in_default.is) in
     simp (k, d)
 
-pub returns-then-digits-eq0 : goal.returns-then-digits-eq0
-returns-then-digits-eq0 c =
+pub returns-then-none : goal.returns-then-none
+returns-then-none c =
     let s = c.args.s.now in
-    let k : leb (word s 0) 1023 ≡ true = rw c.word-code.ensures at (le-leb _ _ c.if-code-gt1023.false) in
+    let k : leb (word s 0) 1023 ≡ true = rw c.word-code.ensures at (le-leb _ _ c.if-wide.false) in
     let d = value_found (digits s) _ (sym c.read_digits-d.ensures ∙ c.in-Value.is) in
-    let z : eqb (value_of (digits s)) 0 ≡ true = eq-eqb _ _ (d.1 ∙ c.if-digits-eq0.true) in
+    let z : eqb (value_of (digits s)) 0 ≡ true = eq-eqb _ _ (d.1 ∙ c.if-none.true) in
     simp (k, d.0, z)
 
 pub returns : goal.returns
 returns c =
     let s = c.args.s.now in
     let w = c.word-code in
-    let k : leb (word s 0) 1023 ≡ true = rw w.ensures at (le-leb _ _ c.if-code-gt1023.false) in
+    let k : leb (word s 0) 1023 ≡ true = rw w.ensures at (le-leb _ _ c.if-wide.false) in
     let d = value_found (digits s) _ (sym c.read_digits-d.ensures ∙ c.in-Value.is) in
-    let z : eqb (value_of (digits s)) 0 ≡ false = ne_eqb _ _ (λ q. c.if-digits-eq0.false (sym d.1 ∙ q)) in
+    let z : eqb (value_of (digits s)) 0 ≡ false = ne_eqb _ _ (λ q. c.if-none.false (sym d.1 ∙ q)) in
     let v : c.new-number.result ≡ num (value_of (digits s)) = c.new-number.ensures ∙ ap num (sym d.1) in
     simp (k, d.0, z, w.ensures, v, c.new-link.ensures)

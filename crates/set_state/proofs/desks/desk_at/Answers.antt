@@ -8,12 +8,12 @@ use Rattle.set_state.specs.State.{no_desk}
 use borrow.Author.Rules.{rules}
 use Rattle.set_state.proofs.desks.desk_at.Goals as goal
 
-pub returns-then-i-lt4 : goal.returns-then-i-lt4
-returns-then-i-lt4 c =
+pub returns-then-there : goal.returns-then-there
+returns-then-there c =
     let n : length c.args.desks ≡ 4 = search rules in
-    any_default c.args.desks _ _ no_desk (omega (arith, n, c.if-i-lt4.true))
+    any_default c.args.desks _ _ no_desk (omega (arith, n, c.if-there.true))
 
 pub returns : goal.returns
 returns c =
     let n : length c.args.desks ≡ 4 = search rules in
-    c.none.ensures ∙ sym (get_or-eq_default c.args.desks no_desk (omega (arith, n, c.if-i-lt4.false)))
+    c.none.ensures ∙ sym (get_or-eq_default c.args.desks no_desk (omega (arith, n, c.if-there.false)))
