@@ -1,8 +1,8 @@
 -- Laws of frames: the first and those behind it, and what is handed on of a window.
 -- Assumes nothing.
-use Prim.Native.Nat.{ℕ, zero, suc, ◌+◌, ◌-◌, ◌*◌, ◌≤◌, ◌<◌}
+use Prim.Native.Nat.{ℕ, zero, suc, ◌+◌, ◌-◌, ◌≤◌, ◌<◌}
 use mathlib.Core.List.{List, [], ◌∷◌, ◌++◌}
-use mathlib.Core.Bool.{Bool, true, false, cond, ◌&&◌}
+use mathlib.Core.Bool.{Bool, true, false, cond}
 use mathlib.Core.Path.{◌≡◌, refl, sym, ap, ◌∙◌}
 use native.Mathlib.Omega.{arith}
 use lib.Dec.{leb, ltb}
@@ -11,7 +11,7 @@ use lib.Seq.{take_all}
 use borrow.Author.Tests.{ltb-true, ltb-false, leb-true, leb-false, lt-ltb, le-ltb, le-leb, lt-leb}
 use Rattle.laws.proofs.Tests.{by_test}
 use Rattle.frames.specs.Bytes.{word}
-use Rattle.frames.specs.Frames.{frames_to, frames_in, frame_size}
+use Rattle.frames.specs.Frames.{frames_to, frame_size}
 use Rattle.frames.specs.Promises.{SameFrames, FirstFrame, SizeWithin, SizeSome, SizeLong, SizeCuts, SizeStays, SizeFull}
 
 -- ---- the frames among bytes

@@ -1,7 +1,7 @@
 -- While a mobile rings nobody holds, presses or talks, whatever happens: so what needs one of these does not happen in a ring.
 -- Assumes nothing.
 use Prim.Native.Nat.{ℕ}
-use mathlib.Core.Bool.{Bool, true, false, cond, false≢true}
+use mathlib.Core.Bool.{Bool, true, false, false≢true}
 use mathlib.Core.Path.{◌≡◌, refl, sym, ap, ◌∙◌}
 use lib.Dec.{leb, ltb}
 use Rattle.laws.proofs.Tests.{by_test, either, by_branch}

@@ -11,7 +11,7 @@ use Rattle.channel.specs.declared.state.Arrival.{Arrival}
 use Rattle.channel.specs.declared.state.Arrival.TheVariants.{Absent, Present}
 use Rattle.channel.specs.declared.state.Channel.{Channel}
 use Rattle.set_state.specs.declared.state.Desk.{Desk}
-use Rattle.plain_set.specs.Plain.{party_in, call_in, arrival_in, channel_in, desk_in, set_in, flag_of, party_of, call_of, arrival_of, channel_of, desk_of, plain_of}
+use Rattle.plain_set.specs.Plain.{party_in, call_in, arrival_in, channel_in, desk_in, flag_of, party_of, call_of, arrival_of, channel_of, desk_of}
 use Rattle.plain_set.specs.Promises.{Returns}
 use Rattle.plain_set.proofs.Maps.{map_back}
 

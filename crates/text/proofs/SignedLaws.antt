@@ -1,6 +1,6 @@
 -- Laws of numbers that may be below zero.
 -- Assumes nothing.
-use Prim.Native.Nat.{suc, ◌+◌, ◌-◌, ◌^◌, ◌<◌}
+use Prim.Native.Nat.{suc, ◌+◌, ◌^◌, ◌<◌}
 use mathlib.Core.List.{[], ◌∷◌, ◌++◌}
 use mathlib.Core.Bool.{Bool, true, false, cond, false≢true}
 use mathlib.Core.Path.{◌≡◌, sym, ap, subst, ◌∙◌}

@@ -10,7 +10,6 @@ use Rattle.frames.specs.Frames.{frames_in}
 use Rattle.text.proofs.Kept.{also}
 use Rattle.answer_lines.specs.Lines.{record_lines}
 use Rattle.answer_lines.proofs.Turns.{answer-parts, answer-length}
-use borrow.Author.Rules.{rules}
 use Rattle.answer_lines.proofs.put_lines.Goals as goal
 
 pub put_entry-place-requires : goal.put_entry-place-requires

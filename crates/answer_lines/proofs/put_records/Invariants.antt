@@ -1,13 +1,10 @@
 -- `answer_lines::put_records` meets its contract: record by record. The invariant: the lines of the records from `from` on are left.
 -- Assumes nothing.
-use borrow.Author.Rules.{rules}
 use Prim.Native.Nat.{◌-◌, ◌≤◌}
-use native.Mathlib.Omega.{arith}
 use lib.ListN.{length, drop}
 use Rattle.frames.specs.Frames.{frames_in}
-use Rattle.text.proofs.Kept.{puts-length}
 use Rattle.answer_lines.specs.Lines.{record_lines}
-use Rattle.answer_lines.proofs.Turns.{Putting, start, next, room, ended, Turn, turn, lines_past}
+use Rattle.answer_lines.proofs.Turns.{Putting}
 use Rattle.answer_lines.proofs.put_records.Given as goal
 
 abbrev pub invariant-loop-from : goal.invariant-loop-from

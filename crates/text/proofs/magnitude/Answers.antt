@@ -1,7 +1,6 @@
 -- `text::magnitude` meets its contract: no number is too far below zero for it.
 -- Assumes nothing.
 use Rattle.text.proofs.SignedLaws.{below, above}
-use borrow.Author.Rules.{rules}
 use Rattle.text.proofs.magnitude.Goals as goal
 
 pub overflow_sub-result : goal.overflow_sub-result

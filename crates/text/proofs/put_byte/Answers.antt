@@ -1,6 +1,5 @@
 -- `text::put_byte` meets its contract: one store.
 -- Assumes nothing.
-use borrow.Author.Rules.{rules}
 use mathlib.Core.Path.{refl}
 use Rattle.text.specs.Written.{written}
 use Rattle.text.proofs.put_byte.Goals as goal

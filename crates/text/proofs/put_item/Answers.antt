@@ -1,7 +1,6 @@
 -- `text::put_item` meets its contract: the number, and a byte behind it.
 -- Assumes nothing.
 use Rattle.text.proofs.PutLaws.{also}
-use borrow.Author.Rules.{rules}
 use Rattle.text.proofs.put_item.Goals as goal
 
 pub returns : goal.returns

@@ -6,7 +6,6 @@ use lib.ListN.{length, length-append}
 use Rattle.numerals.proofs.Kept.{length_digits}
 use Rattle.text.proofs.DecimalLaws.{decimal_thousand}
 use Rattle.text.proofs.PutLaws.{also}
-use borrow.Author.Rules.{rules}
 use Rattle.text.proofs.put_number.Goals as goal
 
 pub put_thousands-place-requires : goal.put_thousands-place-requires

@@ -7,7 +7,6 @@ use lib.ListN.{length}
 use Rattle.text.specs.Decimal.{decimal}
 use Rattle.text.proofs.PutLaws.{also, alike}
 use Rattle.text.proofs.SignedLaws.{signed_is, size_back}
-use borrow.Author.Rules.{rules}
 use Rattle.text.proofs.put_signed.Goals as goal
 
 pub put_byte-place-requires : goal.put_byte-place-requires

@@ -7,7 +7,6 @@ use lib.ListN.{length, length-set}
 use Rattle.text.specs.Written.{written}
 use Rattle.numerals.proofs.Kept.{length_digits}
 use Rattle.text.proofs.DecimalLaws.{decimal-one, decimal-two, decimal-three}
-use borrow.Author.Rules.{rules}
 use Rattle.text.proofs.put_small.Goals as goal
 
 pub bounds-text-at : goal.bounds-text-at

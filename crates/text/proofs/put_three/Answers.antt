@@ -6,7 +6,6 @@ use native.Mathlib.Omega.{arith}
 use lib.ListN.{length-set}
 use Rattle.text.specs.Written.{written}
 use Rattle.numerals.specs.Digits.{digits_of}
-use borrow.Author.Rules.{rules}
 use Rattle.text.proofs.put_three.Goals as goal
 
 pub bounds-text-at-2 : goal.bounds-text-at-2

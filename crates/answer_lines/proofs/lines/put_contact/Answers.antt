@@ -4,7 +4,6 @@ use native.Mathlib.Omega.{arith}
 use lib.ListN.{length-append}
 use Rattle.text.proofs.Kept.{also}
 use Rattle.answer_lines.proofs.LineLaws.{contact_items, contact-length}
-use borrow.Author.Rules.{rules}
 use Rattle.answer_lines.proofs.lines.put_contact.Goals as goal
 
 pub put_letter-first-requires : goal.put_letter-first-requires

@@ -5,7 +5,6 @@ use mathlib.Core.Path.{◌≡◌, refl}
 use native.Mathlib.Omega.{arith}
 use lib.ListN.{length-set}
 use Rattle.text.specs.Written.{written}
-use borrow.Author.Rules.{rules}
 use Rattle.answer_lines.proofs.lines.put_letter.Goals as goal
 
 pub bounds-text-at-2 : goal.bounds-text-at-2

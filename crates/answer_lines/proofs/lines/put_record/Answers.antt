@@ -8,7 +8,6 @@ use lib.ListN.{length}
 use Rattle.frames.specs.Bytes.{byte}
 use Rattle.text.proofs.Kept.{puts_none}
 use Rattle.answer_lines.proofs.LineLaws.{kind-there, line-telegram, line-contact, line_other}
-use borrow.Author.Rules.{rules}
 use Rattle.answer_lines.proofs.lines.put_record.Goals as goal
 use Rattle.answer_lines.proofs.lines.put_record.Goals.{After-shared_slice_known-then-bytes-ge8-1, After-shared_slice_known-then-kind-eq1-1}
 

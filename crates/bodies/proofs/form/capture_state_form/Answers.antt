@@ -1,7 +1,6 @@
 -- `bodies::form::capture_state_form` meets its contract: no number is shown, whoever holds the channel.
 -- Assumes nothing.
 use Rattle.bodies.proofs.BodyLaws.{either_same}
-use borrow.Author.Rules.{rules}
 use Rattle.bodies.proofs.form.capture_state_form.Goals as goal
 
 pub returns : goal.returns

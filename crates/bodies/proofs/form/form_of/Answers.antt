@@ -1,6 +1,5 @@
 -- `bodies::form::form_of` meets its contract: a notice's telegram, or a request's.
 -- Assumes nothing.
-use borrow.Author.Rules.{rules}
 use Rattle.bodies.proofs.form.form_of.Goals as goal
 
 pub returns-in-About : goal.returns-in-About

@@ -1,6 +1,5 @@
 -- `bodies::form::notice_form` meets its contract: each arm gives the telegram of its notice.
 -- Assumes nothing.
-use borrow.Author.Rules.{rules}
 use Rattle.bodies.proofs.form.notice_form.Goals as goal
 
 pub returns-in-BaseArrival : goal.returns-in-BaseArrival

@@ -1,16 +1,12 @@
 -- `bodies::measure::space` meets its contract. The invariant: what is summed up so far and the space of the sends that are left make the
 -- whole, whichever channel it is.
 -- Assumes nothing.
-use Prim.Native.Nat.{ℕ, ◌+◌, ◌*◌, ◌-◌, ◌≤◌, ◌<◌}
+use Prim.Native.Nat.{ℕ, ◌+◌, ◌*◌, ◌-◌, ◌≤◌}
 use mathlib.Core.List.{List}
 use mathlib.Core.Path.{◌≡◌}
-use native.Mathlib.Nat.{zero-add}
-use native.Mathlib.Omega.{arith}
-use lib.ListN.{length, drop}
+use lib.ListN.{drop}
 use Rattle.set_rules.specs.Records.{delivered, space_of}
 use Rattle.set_state.specs.declared.state.Desk.{Desk}
-use Rattle.bodies.proofs.SpaceLaws.{space-next, space_end}
-use borrow.Author.Rules.{rules}
 use Rattle.bodies.proofs.measure.space.Given as goal
 
 abbrev pub invariant-loop-k : goal.invariant-loop-k

@@ -8,7 +8,6 @@ use Rattle.set_state.specs.State.{own_of}
 use Rattle.set_rules.specs.Records.{space_of}
 use Rattle.bodies.specs.Bodies.{size_in}
 use Rattle.bodies.proofs.BodyLaws.{body-size}
-use borrow.Author.Rules.{rules}
 use Rattle.bodies.proofs.measure.space_to.Goals as goal
 
 pub space_of-requires : goal.space_of-requires

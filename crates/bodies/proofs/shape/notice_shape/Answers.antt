@@ -2,7 +2,6 @@
 -- Assumes nothing.
 use Prim.Native.Nat.{ℕ}
 use mathlib.Core.Path.{refl, ap, ◌∙◌}
-use borrow.Author.Rules.{rules}
 use Rattle.bodies.specs.declared.shape.Own.TheVariants.{Nobody, Everyone, Holder}
 use Rattle.bodies.specs.declared.shape.Shape.TheVariants.{Telegram}
 use Rattle.bodies.proofs.shape.notice_shape.Goals as goal

@@ -1,6 +1,5 @@
 -- `bodies::shape::shape_of` meets its contract: each arm answers for its body.
 -- Assumes nothing.
-use borrow.Author.Rules.{rules}
 use Rattle.bodies.proofs.shape.shape_of.Goals as goal
 
 pub returns-in-About : goal.returns-in-About

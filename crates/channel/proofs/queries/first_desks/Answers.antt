@@ -1,6 +1,5 @@
 -- `channel::queries::first_desks` meets its contract: a shift is a power of two.
 -- Assumes nothing.
-use borrow.Author.Rules.{rules}
 use mathlib.Core.Path.{refl}
 use borrow.Author.Tests.{le-ltb}
 use Rattle.channel.proofs.Sets.{some-bit, first_bits}

@@ -1,6 +1,5 @@
 -- `channel::queries::is_in` meets its contract: the bit of the desk, and none from place 8 on.
 -- Assumes nothing.
-use borrow.Author.Rules.{rules}
 use mathlib.Core.Path.{sym}
 use Prim.Native.Nat.{◌<◌}
 use native.Mathlib.Omega.{arith}

@@ -2,7 +2,6 @@
 -- Assumes nothing.
 use native.Mathlib.Omega.{arith}
 use borrow.Author.Tests.{le-leb, lt-leb}
-use borrow.Author.Rules.{rules}
 use Rattle.entries.proofs.entry.is_measured.Goals as goal
 
 pub returns-then-entry-lt4 : goal.returns-then-entry-lt4

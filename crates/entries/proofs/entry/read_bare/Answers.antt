@@ -3,7 +3,6 @@
 use borrow.Author.Tests.{eq-eqb, ne_eqb}
 use Rattle.laws.specs.Table.{pick}
 use Rattle.entries.specs.Payloads.{bare_in}
-use borrow.Author.Rules.{rules}
 use Rattle.entries.proofs.entry.read_bare.Goals as goal
 
 pub returns-then-entry-ne4 : goal.returns-then-entry-ne4

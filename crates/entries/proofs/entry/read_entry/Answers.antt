@@ -7,12 +7,11 @@ use mathlib.Core.Path.{◌≡◌, sym, ◌∙◌}
 use native.Mathlib.Omega.{arith}
 use lib.Dec.{eqb, leb}
 use lib.ListN.{length}
-use borrow.Author.Tests.{not-true, not-false, leb-true, eq-eqb, ne_eqb}
+use borrow.Author.Tests.{leb-true, eq-eqb, ne_eqb}
 use Rattle.laws.proofs.Tests.{both}
 use Rattle.frames.specs.Bytes.{word}
 use Rattle.set_rules.specs.Entries.{measured, read_entry}
 use Rattle.entries.specs.Payloads.{payload_in}
-use borrow.Author.Rules.{rules}
 use Rattle.entries.proofs.entry.read_entry.Goals as goal
 
 -- an entry with a right length has a version and a kind

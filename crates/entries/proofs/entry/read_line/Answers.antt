@@ -2,7 +2,6 @@
 -- Assumes nothing.
 use borrow.Author.Tests.{eq-eqb, ne_eqb}
 use Rattle.entries.specs.Payloads.{line_in}
-use borrow.Author.Rules.{rules}
 use Rattle.entries.proofs.entry.read_line.Goals as goal
 
 pub returns-then-entry-ne5 : goal.returns-then-entry-ne5

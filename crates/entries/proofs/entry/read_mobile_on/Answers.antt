@@ -1,10 +1,9 @@
 -- `entries::entry::read_mobile_on` meets its contract: the size, then the base, are tested.
 -- Assumes nothing.
 use mathlib.Core.Path.{sym, ◌∙◌}
-use borrow.Author.Tests.{eq-eqb, ne_eqb, not-true, not-false}
+use borrow.Author.Tests.{eq-eqb, ne_eqb}
 use Rattle.laws.specs.Table.{pick}
 use Rattle.entries.specs.Payloads.{payload_in}
-use borrow.Author.Rules.{rules}
 use Rattle.entries.proofs.entry.read_mobile_on.Goals as goal
 
 pub returns-then-entry-ne14 : goal.returns-then-entry-ne14

@@ -4,7 +4,6 @@ use mathlib.Core.Bool.{and-true}
 use borrow.Author.Tests.{ne_eqb}
 use Rattle.laws.specs.Table.{pick}
 use Rattle.entries.specs.Payloads.{payload_in, line_in, bare_in}
-use borrow.Author.Rules.{rules}
 use Rattle.entries.proofs.entry.read_payload.Goals as goal
 
 pub returns-in-1 : goal.returns-in-1

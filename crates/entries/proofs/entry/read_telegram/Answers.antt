@@ -3,7 +3,6 @@
 use borrow.Author.Tests.{le-leb, lt-leb}
 use Rattle.laws.specs.Table.{pick}
 use Rattle.entries.specs.Payloads.{payload_in}
-use borrow.Author.Rules.{rules}
 use Rattle.entries.proofs.entry.read_telegram.Goals as goal
 
 pub returns-then-entry-lt5 : goal.returns-then-entry-lt5

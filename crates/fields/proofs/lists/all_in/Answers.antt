@@ -1,14 +1,12 @@
 -- `fields::lists::all_in` meets its contract. The invariant: all fields are in range exactly when those from `i` on are.
 -- Assumes nothing.
-use Prim.Native.Nat.{◌≤◌, ◌-◌}
 use mathlib.Core.Bool.{true, false}
 use mathlib.Core.Path.{◌≡◌, sym, ◌∙◌}
 use native.Mathlib.Omega.{arith}
-use lib.ListN.{length, drop, get_or}
+use lib.ListN.{get_or}
 use borrow.Author.Rules.{rules}
-use borrow.Author.Tests.{not-true, not-false}
-use Rattle.fields.specs.Fields.{in_range, all_in}
-use Rattle.fields.specs.Held.{field_of, fields_of}
+use Rattle.fields.specs.Fields.{in_range}
+use Rattle.fields.specs.Held.{field_of}
 use Rattle.fields.proofs.FieldLaws.{all_in_at, all_in_end, all_in_count}
 use Rattle.fields.proofs.lists.all_in.Goals as goal
 

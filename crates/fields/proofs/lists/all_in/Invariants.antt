@@ -1,15 +1,10 @@
 -- `fields::lists::all_in` meets its contract. The invariant: all fields are in range exactly when those from `i` on are.
 -- Assumes nothing.
 use Prim.Native.Nat.{◌≤◌, ◌-◌}
-use mathlib.Core.Bool.{true, false}
-use mathlib.Core.Path.{◌≡◌, sym, ◌∙◌}
-use native.Mathlib.Omega.{arith}
-use lib.ListN.{length, drop, get_or}
-use borrow.Author.Rules.{rules}
-use borrow.Author.Tests.{not-true, not-false}
-use Rattle.fields.specs.Fields.{in_range, all_in}
-use Rattle.fields.specs.Held.{field_of, fields_of}
-use Rattle.fields.proofs.FieldLaws.{all_in_at, all_in_end, all_in_count}
+use mathlib.Core.Path.{◌≡◌}
+use lib.ListN.{length, drop}
+use Rattle.fields.specs.Fields.{all_in}
+use Rattle.fields.specs.Held.{fields_of}
 use Rattle.fields.proofs.lists.all_in.Given as goal
 
 abbrev pub invariant-loop-i : goal.invariant-loop-i

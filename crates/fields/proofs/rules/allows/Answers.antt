@@ -5,7 +5,6 @@ use mathlib.Core.Path.{◌≡◌, refl, sym, ap}
 use mathlib.Core.Bool.{true}
 use native.Mathlib.Omega.{arith}
 use lib.ListN.{get_or, get_or-eq_default}
-use borrow.Author.Rules.{rules}
 use Rattle.fields.specs.Fields.{Field, plain}
 use Rattle.fields.specs.Held.{numbered}
 use Rattle.fields.proofs.rules.allows.Goals as goal

@@ -1,6 +1,5 @@
 -- `fields::rules::in_range` meets its contract: the two tests' answers, put together.
 -- Assumes nothing.
-use borrow.Author.Rules.{rules}
 use Rattle.fields.proofs.rules.in_range.Goals as goal
 
 pub returns : goal.returns

@@ -1,6 +1,5 @@
 -- `fields::rules::month_days` meets its contract: the tests on the way to each `return` say which case of `month_days` holds.
 -- Assumes nothing.
-use borrow.Author.Rules.{rules}
 use borrow.Author.Tests.{eq-eqb, ne_eqb}
 use Rattle.fields.proofs.rules.month_days.Goals as goal
 

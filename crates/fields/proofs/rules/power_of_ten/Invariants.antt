@@ -1,11 +1,7 @@
 -- `fields::rules::power_of_ten` meets its contract. The invariant: `p` is 10 to the `i`.
 -- Assumes nothing.
 use Prim.Native.Nat.{◌≤◌, ◌-◌, ◌^◌}
-use mathlib.Core.Path.{◌≡◌, refl}
-use native.Mathlib.Omega.{arith}
-use native.Mathlib.Nat.{pow-le-pow_right, pow-succ'}
-use native.Mathlib.Numerals.{add-one}
-use borrow.Author.Rules.{rules}
+use mathlib.Core.Path.{◌≡◌}
 use Rattle.fields.proofs.rules.power_of_ten.Given as goal
 
 abbrev pub invariant-loop-i : goal.invariant-loop-i

@@ -1,7 +1,6 @@
 -- `frames::frame::broken_off` meets its contract.
 -- Assumes nothing.
 use mathlib.Core.Path.{refl}
-use borrow.Author.Rules.{rules}
 use Rattle.frames.proofs.frame.broken_off.Goals as goal
 
 pub returns-then-ended : goal.returns-then-ended

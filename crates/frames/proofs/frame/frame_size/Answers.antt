@@ -3,7 +3,6 @@
 use mathlib.Core.Path.{sym, ◌∙◌}
 use native.Mathlib.Omega.{arith}
 use Rattle.frames.proofs.FrameLaws.{size-long, size-whole, size-broken}
-use borrow.Author.Rules.{rules}
 use Rattle.frames.proofs.frame.frame_size.Goals as goal
 
 pub returns-then-window-lt2 : goal.returns-then-window-lt2

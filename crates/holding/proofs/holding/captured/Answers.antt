@@ -1,6 +1,5 @@
 -- `holding::holding::captured` meets its contract: the reply, then the state to the listeners.
 -- Assumes nothing.
-use borrow.Author.Rules.{rules}
 use mathlib.Core.Path.{refl}
 use Rattle.sends.specs.Scripts.{heard}
 use Rattle.holding.proofs.holding.captured.Goals as goal

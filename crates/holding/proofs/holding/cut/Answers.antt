@@ -1,6 +1,5 @@
 -- `holding::holding::cut` meets its contract: nobody hears what is sent before it.
 -- Assumes nothing.
-use borrow.Author.Rules.{rules}
 use Rattle.sends.specs.Scripts.{heard}
 use Rattle.holding.proofs.holding.cut.Goals as goal
 

@@ -1,6 +1,5 @@
 -- `holding::holding::cut_after` meets its contract: each part of the script is heard as the rule's.
 -- Assumes nothing.
-use borrow.Author.Rules.{rules}
 use mathlib.Core.Path.{refl, sym}
 use Rattle.line_rules.specs.Rules.{cut}
 use Rattle.sends.proofs.Kept.{send-by-send, heard_press_off}

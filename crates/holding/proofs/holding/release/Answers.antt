@@ -1,6 +1,5 @@
 -- `holding::holding::release` meets its contract: by whether the desk holds the channel.
 -- Assumes nothing.
-use borrow.Author.Rules.{rules}
 use mathlib.Core.Path.{sym, ◌∙◌}
 use Rattle.line_rules.specs.Rules.{release}
 use Rattle.holding.proofs.holding.release.Goals as goal

@@ -1,6 +1,5 @@
 -- `holding::holding::replied` meets its contract: the reply is all that is sent.
 -- Assumes nothing.
-use borrow.Author.Rules.{rules}
 use Rattle.holding.proofs.holding.replied.Goals as goal
 
 pub returns : goal.returns

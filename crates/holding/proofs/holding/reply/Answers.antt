@@ -1,6 +1,5 @@
 -- `holding::holding::reply` meets its contract: it goes to the desk alone.
 -- Assumes nothing.
-use borrow.Author.Rules.{rules}
 use mathlib.Core.Path.{refl}
 use Rattle.holding.proofs.holding.reply.Goals as goal
 

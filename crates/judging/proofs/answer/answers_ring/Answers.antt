@@ -1,7 +1,6 @@
 -- `judging::answer::answers_ring` meets its contract, test by test.
 -- Assumes nothing.
 use mathlib.Core.Path.{refl}
-use borrow.Author.Rules.{rules}
 use Rattle.judging.proofs.answer.answers_ring.Goals as goal
 
 pub returns : goal.returns

@@ -1,7 +1,6 @@
 -- `judging::answer::caller_of` meets its contract, case by case.
 -- Assumes nothing.
 use mathlib.Core.Path.{refl}
-use borrow.Author.Rules.{rules}
 use Rattle.judging.proofs.answer.caller_of.Goals as goal
 
 pub returns-in-Closed : goal.returns-in-Closed

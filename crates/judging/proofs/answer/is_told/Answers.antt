@@ -1,7 +1,6 @@
 -- `judging::answer::is_told` meets its contract, case by case.
 -- Assumes nothing.
 use mathlib.Core.Path.{refl}
-use borrow.Author.Rules.{rules}
 use Rattle.judging.proofs.answer.is_told.Goals as goal
 
 pub returns-in-Closed : goal.returns-in-Closed

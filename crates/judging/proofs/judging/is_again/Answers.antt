@@ -1,7 +1,6 @@
 -- `judging::judging::is_again` meets its contract, test by test.
 -- Assumes nothing.
 use mathlib.Core.Path.{refl, sym, ◌∙◌}
-use borrow.Author.Rules.{rules}
 use Rattle.judging.proofs.judging.is_again.Goals as goal
 
 pub returns-then-is_held : goal.returns-then-is_held

@@ -1,7 +1,6 @@
 -- `judging::judging::is_idle` meets its contract.
 -- Assumes nothing.
 use mathlib.Core.Path.{refl}
-use borrow.Author.Rules.{rules}
 use Rattle.judging.proofs.judging.is_idle.Goals as goal
 
 pub returns : goal.returns

@@ -1,7 +1,6 @@
 -- `judging::judging::judge` meets its contract, kind by kind.
 -- Assumes nothing.
 use borrow.Author.Tests.{eq-eqb, ne_eqb}
-use borrow.Author.Rules.{rules}
 use Rattle.judging.proofs.judging.judge.Goals as goal
 
 pub returns-then-x-eq1 : goal.returns-then-x-eq1

@@ -1,8 +1,6 @@
 -- `judging::judging::judge_call` meets its contract, test by test.
 -- Assumes nothing.
 use mathlib.Core.Path.{refl}
-use borrow.Author.Tests.{not-true, not-false}
-use borrow.Author.Rules.{rules}
 use Rattle.judging.proofs.judging.judge_call.Goals as goal
 
 pub returns-then-not-found : goal.returns-then-not-found

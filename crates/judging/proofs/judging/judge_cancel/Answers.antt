@@ -1,7 +1,7 @@
 -- `judging::judging::judge_cancel` meets its contract, test by test.
 -- Assumes nothing.
 use mathlib.Core.Path.{refl}
-use borrow.Author.Tests.{lt-ltb, le-ltb, not-true, not-false}
+use borrow.Author.Tests.{lt-ltb, le-ltb}
 use Rattle.judging.proofs.judging.judge_cancel.Goals as goal
 
 pub returns-then-not-found : goal.returns-then-not-found

@@ -1,8 +1,7 @@
 -- `judging::judging::judge_mobile` meets its contract, test by test.
 -- Assumes nothing.
 use mathlib.Core.Path.{refl, sym, ◌∙◌}
-use borrow.Author.Tests.{eq-eqb, ne_eqb, not-true, not-false}
-use borrow.Author.Rules.{rules}
+use borrow.Author.Tests.{eq-eqb, ne_eqb}
 use Rattle.judging.proofs.judging.judge_mobile.Goals as goal
 
 pub returns-then-not-found : goal.returns-then-not-found

@@ -1,7 +1,6 @@
 -- `judging::judging::may_use` meets its contract.
 -- Assumes nothing.
 use mathlib.Core.Path.{refl}
-use borrow.Author.Rules.{rules}
 use Rattle.judging.proofs.judging.may_use.Goals as goal
 
 pub returns : goal.returns

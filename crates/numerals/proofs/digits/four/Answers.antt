@@ -4,7 +4,6 @@ use Prim.Native.Nat.{ℕ}
 use mathlib.Core.Bool.{Bool, true, false, ◌&&◌}
 use mathlib.Core.Path.{◌≡◌}
 use native.Mathlib.Omega.{arith}
-use borrow.Author.Rules.{rules}
 use Rattle.numerals.specs.Digits.{is_digit}
 use Rattle.numerals.proofs.DigitLaws.{four-digits, four_value}
 use Rattle.numerals.proofs.digits.four.Goals as goal

@@ -1,6 +1,6 @@
 -- `numerals::digits::read_digits` meets its contract. The invariant: the bytes passed are digits and spell `v`.
 -- Assumes nothing.
-use Prim.Native.Nat.{ℕ, ◌≤◌, ◌<◌, ◌-◌, ◌^◌}
+use Prim.Native.Nat.{ℕ, ◌≤◌, ◌<◌, ◌^◌}
 use mathlib.Core.Path.{◌≡◌, refl, sym, ◌∙◌}
 use mathlib.Core.Bool.{false, and-false}
 use mathlib.Core.List.{List}
@@ -10,7 +10,7 @@ use native.Mathlib.Numerals.{add-one}
 use lib.ListN.{length, drop, get_or}
 use borrow.Author.Rules.{rules}
 use borrow.Author.Tests.{lt-leb, le-leb}
-use Rattle.numerals.specs.Digits.{all_digits, value_from, is_digit, digits_in}
+use Rattle.numerals.specs.Digits.{all_digits, is_digit, digits_in}
 use Rattle.numerals.specs.declared.digits.Digits.TheVariants.{Malformed}
 use Rattle.numerals.proofs.DigitLaws.{digits_step, digits-stop, digits-done, digits-found, digits_long}
 use Rattle.numerals.proofs.digits.read_digits.Goals as goal

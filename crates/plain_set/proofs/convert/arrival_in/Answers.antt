@@ -2,7 +2,6 @@
 -- Assumes nothing.
 use mathlib.Core.Path.{refl}
 use borrow.Author.Tests.{eq-eqb, ne_eqb}
-use borrow.Author.Rules.{rules}
 use Rattle.plain_set.proofs.convert.arrival_in.Goals as goal
 
 pub returns-then-p-eq1 : goal.returns-then-p-eq1

@@ -1,7 +1,6 @@
 -- `plain_set::convert::channel_in` meets its contract.
 -- Assumes nothing.
 use mathlib.Core.Path.{refl}
-use borrow.Author.Rules.{rules}
 use Rattle.plain_set.proofs.convert.channel_in.Goals as goal
 
 pub returns : goal.returns

@@ -1,9 +1,7 @@
 -- `plain_set::convert::channels_of` meets its contract: a channel a turn.
 -- Assumes nothing.
-use Prim.Native.Nat.{◌-◌}
 use borrow.Author.Rules.{rules}
-use Rattle.plain_set.specs.Plain.{channel_of}
-use Rattle.plain_set.proofs.Maps.{Mapped, map-start, map_next, map-done}
+use Rattle.plain_set.proofs.Maps.{map-start, map_next, map-done}
 use Rattle.plain_set.proofs.convert.channels_of.Goals as goal
 
 pub loop-i-init : goal.loop-i-init

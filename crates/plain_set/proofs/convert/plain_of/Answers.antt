@@ -1,7 +1,6 @@
 -- `plain_set::convert::plain_of` meets its contract.
 -- Assumes nothing.
 use mathlib.Core.Path.{refl}
-use borrow.Author.Rules.{rules}
 use Rattle.plain_set.proofs.convert.plain_of.Goals as goal
 
 pub returns : goal.returns

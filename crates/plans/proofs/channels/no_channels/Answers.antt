@@ -1,6 +1,5 @@
 -- `plans::channels::no_channels` meets its contract: fillers only.
 -- Assumes nothing.
-use borrow.Author.Rules.{rules}
 use Rattle.plans.proofs.channels.no_channels.Goals as goal
 
 pub returns : goal.returns

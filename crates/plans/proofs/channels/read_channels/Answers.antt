@@ -1,15 +1,13 @@
 -- `plans::channels::read_channels` meets its contract. The invariant: the channels are right exactly when those from `i` on
 -- are, and the array then lacks only these.
 -- Assumes nothing.
-use Prim.Native.Nat.{◌+◌, ◌*◌, ◌-◌, ◌≤◌, ◌<◌}
+use Prim.Native.Nat.{◌+◌, ◌≤◌, ◌<◌}
 use mathlib.Core.Bool.{true, false, ◌&&◌}
 use mathlib.Core.Path.{◌≡◌, sym, ◌∙◌}
 use native.Mathlib.Omega.{arith}
 use native.Mathlib.Nat.{sub-zero}
 use native.Mathlib.Numerals.{add-one}
 use lib.ListN.{length, drop, get_or, length-set}
-use lib.Seq.{sets}
-use borrow.Author.Tests.{not-true, not-false}
 use Rattle.fields.specs.Fields.{between}
 use Rattle.channel.specs.State.{first_desks}
 use Rattle.set_state.specs.State.{no_channel}

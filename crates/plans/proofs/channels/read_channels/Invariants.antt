@@ -1,24 +1,12 @@
 -- `plans::channels::read_channels` meets its contract. The invariant: the channels are right exactly when those from `i` on
 -- are, and the array then lacks only these.
 -- Assumes nothing.
-use Prim.Native.Nat.{◌+◌, ◌*◌, ◌-◌, ◌≤◌, ◌<◌}
-use mathlib.Core.Bool.{true, false, ◌&&◌}
-use mathlib.Core.Path.{◌≡◌, sym, ◌∙◌}
-use native.Mathlib.Omega.{arith}
-use native.Mathlib.Nat.{sub-zero}
-use native.Mathlib.Numerals.{add-one}
-use lib.ListN.{length, drop, get_or, length-set}
+use Prim.Native.Nat.{◌*◌, ◌-◌, ◌≤◌}
+use mathlib.Core.Path.{◌≡◌}
+use lib.ListN.{length, drop}
 use lib.Seq.{sets}
-use borrow.Author.Tests.{not-true, not-false}
-use Rattle.fields.specs.Fields.{between}
-use Rattle.channel.specs.State.{first_desks}
 use Rattle.set_state.specs.State.{no_channel}
 use Rattle.set_rules.specs.Plan.{channels_ok, channels_in, filled}
-use Rattle.plans.specs.Planned.{channels_read}
-use Rattle.plans.proofs.Filled.{filled_sets}
-use Rattle.set_rules.proofs.Kept.{length-channels}
-use Rattle.plans.proofs.Turns.{channels_ok_at, channels-at, channels_end, code-low}
-use borrow.Author.Rules.{rules}
 use Rattle.plans.proofs.channels.read_channels.Given as goal
 
 abbrev pub invariant-loop-i : goal.invariant-loop-i

@@ -1,13 +1,13 @@
 -- `plans::desks::has_equal_numbers` meets its contract. The outer loop's invariant: no desk before `i` has the number of one
 -- behind it; the inner one's: none from `i + 1` up to `j` has the number of `i`.
 -- Assumes nothing.
-use Prim.Native.Nat.{◌+◌, ◌-◌, ◌≤◌, ◌<◌}
-use mathlib.Core.Bool.{true, false}
+use Prim.Native.Nat.{◌+◌, ◌≤◌}
+use mathlib.Core.Bool.{true}
 use mathlib.Core.Path.{◌≡◌, refl, ◌∙◌}
 use lib.ListN.{length, take, drop, get_or}
 use borrow.Author.Tests.{eq-eqb, ne_eqb}
 use Rattle.telegram.specs.Telegram.{num}
-use Rattle.set_rules.specs.Plan.{has_number, distinct}
+use Rattle.set_rules.specs.Plan.{has_number}
 use Rattle.set_state.specs.declared.state.Desk.{Desk}
 use Rattle.plans.proofs.Pairs.{distinct-at, number_at, distinct_end, number_end}
 use borrow.Author.Rules.{rules}

@@ -2,15 +2,10 @@
 -- behind it; the inner one's: none from `i + 1` up to `j` has the number of `i`.
 -- Assumes nothing.
 use Prim.Native.Nat.{◌+◌, ◌-◌, ◌≤◌, ◌<◌}
-use mathlib.Core.Bool.{true, false}
-use mathlib.Core.Path.{◌≡◌, refl, ◌∙◌}
-use lib.ListN.{length, take, drop, get_or}
-use borrow.Author.Tests.{eq-eqb, ne_eqb}
-use Rattle.telegram.specs.Telegram.{num}
+use mathlib.Core.Bool.{false}
+use mathlib.Core.Path.{◌≡◌}
+use lib.ListN.{take, drop}
 use Rattle.set_rules.specs.Plan.{has_number, distinct}
-use Rattle.set_state.specs.declared.state.Desk.{Desk}
-use Rattle.plans.proofs.Pairs.{distinct-at, number_at, distinct_end, number_end}
-use borrow.Author.Rules.{rules}
 use Rattle.plans.proofs.desks.has_equal_numbers.Given as goal
 
 abbrev pub invariant-loop-j : goal.invariant-loop-j

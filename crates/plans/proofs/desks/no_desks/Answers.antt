@@ -1,6 +1,5 @@
 -- `plans::desks::no_desks` meets its contract: fillers only.
 -- Assumes nothing.
-use borrow.Author.Rules.{rules}
 use Rattle.plans.proofs.desks.no_desks.Goals as goal
 
 pub returns : goal.returns

@@ -1,14 +1,13 @@
 -- `plans::desks::read_desks` meets its contract. The invariant: the desks are right exactly when those from `i` on are, and
 -- the array then lacks only these.
 -- Assumes nothing.
-use Prim.Native.Nat.{◌*◌, ◌-◌, ◌≤◌, ◌<◌}
+use Prim.Native.Nat.{◌≤◌, ◌<◌}
 use mathlib.Core.Bool.{false}
 use mathlib.Core.Path.{◌≡◌, sym, ◌∙◌}
 use native.Mathlib.Omega.{arith}
 use native.Mathlib.Nat.{sub-zero}
 use native.Mathlib.Numerals.{add-one}
 use lib.ListN.{length, drop, length-set}
-use lib.Seq.{sets}
 use Rattle.laws.proofs.Lists.{part_to_end}
 use Rattle.set_state.specs.State.{no_desk}
 use Rattle.set_rules.specs.Plan.{desks_ok, desks_in, filled}

@@ -1,24 +1,12 @@
 -- `plans::desks::read_desks` meets its contract. The invariant: the desks are right exactly when those from `i` on are, and
 -- the array then lacks only these.
 -- Assumes nothing.
-use Prim.Native.Nat.{◌*◌, ◌-◌, ◌≤◌, ◌<◌}
-use mathlib.Core.Bool.{false}
-use mathlib.Core.Path.{◌≡◌, sym, ◌∙◌}
-use native.Mathlib.Omega.{arith}
-use native.Mathlib.Nat.{sub-zero}
-use native.Mathlib.Numerals.{add-one}
-use lib.ListN.{length, drop, length-set}
+use Prim.Native.Nat.{◌*◌, ◌-◌, ◌≤◌}
+use mathlib.Core.Path.{◌≡◌}
+use lib.ListN.{length, drop}
 use lib.Seq.{sets}
-use Rattle.laws.proofs.Lists.{part_to_end}
 use Rattle.set_state.specs.State.{no_desk}
 use Rattle.set_rules.specs.Plan.{desks_ok, desks_in, filled}
-use Rattle.plans.specs.Planned.{desk_in, desks_read}
-use Rattle.plans.specs.declared.desks.DeskRead.TheVariants.{Is, Bad}
-use Rattle.plans.proofs.Filled.{filled_sets}
-use Rattle.set_rules.proofs.Kept.{length-desks}
-use Rattle.plans.proofs.Turns.{desks_ok_at, desks-at, desks_end}
-use Rattle.plans.proofs.Answers.{desk_found, desk_bad}
-use borrow.Author.Rules.{rules}
 use Rattle.plans.proofs.desks.read_desks.Given as goal
 
 abbrev pub invariant-loop-i : goal.invariant-loop-i

@@ -1,6 +1,5 @@
 -- `plans::plan::no_plan` meets its contract: a new set.
 -- Assumes nothing.
-use borrow.Author.Rules.{rules}
 use Rattle.plans.proofs.plan.no_plan.Goals as goal
 
 pub returns : goal.returns

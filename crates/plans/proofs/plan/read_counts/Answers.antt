@@ -3,7 +3,6 @@
 use mathlib.Core.Bool.{true, false}
 use mathlib.Core.Path.{◌≡◌}
 use Rattle.plans.specs.Planned.{counts_ok}
-use borrow.Author.Rules.{rules}
 use Rattle.plans.proofs.plan.read_counts.Goals as goal
 
 pub returns-then-desks-channels : goal.returns-then-desks-channels

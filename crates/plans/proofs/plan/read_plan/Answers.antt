@@ -8,12 +8,11 @@ use native.Mathlib.Omega.{arith}
 use lib.ListN.{length-drop}
 use borrow.Author.Tests.{not-true, not-false}
 use Rattle.laws.proofs.Lists.{part_to_end}
-use Rattle.set_state.specs.State.{no_desk}
-use Rattle.set_rules.specs.Plan.{desks_ok, distinct, desk_count, desks_part, channel_count, channels_part, plan_ok, filled, set_of}
+use Rattle.set_rules.specs.Plan.{distinct, desk_count, desks_part, channel_count, channels_part, plan_ok, set_of}
 use Rattle.set_state.specs.declared.state.Desk.{Desk}
 use Rattle.set_state.specs.declared.state.Size.{Size}
-use Rattle.plans.specs.Planned.{counts_ok, size_of, desks_read, channels_read, plan_of}
-use Rattle.plans.proofs.Answers.{counts-found, counts-bad, Counted, counted, desks-found, desks-bad, channels-found, channels-bad, desks_of, desks-given, desks-taken, channels-given}
+use Rattle.plans.specs.Planned.{counts_ok, size_of, plan_of}
+use Rattle.plans.proofs.Answers.{counts-found, counts-bad, counted, desks-found, desks-bad, channels-found, channels-bad, desks_of, desks-given, desks-taken, channels-given}
 use Rattle.plans.proofs.plan.read_plan.Goals as goal
 
 -- the numbers of desks and channels that the code goes by are those of the plan

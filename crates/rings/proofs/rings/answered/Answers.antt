@@ -1,6 +1,5 @@
 -- `rings::rings::answered` meets its contract: the reply and the result to the desk, then the state to the listeners.
 -- Assumes nothing.
-use borrow.Author.Rules.{rules}
 use mathlib.Core.Path.{refl}
 use Rattle.line_rules.specs.Rules.{answered}
 use Rattle.sends.specs.Scripts.{heard}

@@ -1,6 +1,5 @@
 -- `rings::rings::reply` meets its contract: it goes to the desk alone.
 -- Assumes nothing.
-use borrow.Author.Rules.{rules}
 use mathlib.Core.Path.{refl}
 use Rattle.rings.proofs.rings.reply.Goals as goal
 

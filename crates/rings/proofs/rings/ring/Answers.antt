@@ -1,6 +1,5 @@
 -- `rings::rings::ring` meets its contract: each part of the script is heard as the rule's.
 -- Assumes nothing.
-use borrow.Author.Rules.{rules}
 use mathlib.Core.Path.{refl}
 use Rattle.line_rules.specs.Rules.{ring}
 use Rattle.sends.specs.Scripts.{heard}

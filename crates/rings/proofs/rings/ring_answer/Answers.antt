@@ -1,6 +1,5 @@
 -- `rings::rings::ring_answer` meets its contract: by whether the answer matches.
 -- Assumes nothing.
-use borrow.Author.Rules.{rules}
 use Rattle.line_rules.specs.Rules.{ring_answer}
 use Rattle.rings.proofs.rings.ring_answer.Goals as goal
 

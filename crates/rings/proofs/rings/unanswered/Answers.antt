@@ -1,6 +1,5 @@
 -- `rings::rings::unanswered` meets its contract: each part of the script is heard as the rule's.
 -- Assumes nothing.
-use borrow.Author.Rules.{rules}
 use mathlib.Core.Path.{refl, sym}
 use Rattle.line_rules.specs.Rules.{unanswered}
 use Rattle.sends.proofs.Kept.{send-by-send}

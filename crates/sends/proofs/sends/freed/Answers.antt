@@ -1,6 +1,5 @@
 -- `sends::sends::freed` meets its contract: the place is the holder's.
 -- Assumes nothing.
-use borrow.Author.Rules.{rules}
 use mathlib.Core.Path.{refl}
 use Rattle.sends.proofs.sends.freed.Goals as goal
 

@@ -1,6 +1,5 @@
 -- `sends::sends::press_sends` meets its contract: the type is the call's.
 -- Assumes nothing.
-use borrow.Author.Rules.{rules}
 use mathlib.Core.Path.{refl}
 use Rattle.sends.proofs.sends.press_sends.Goals as goal
 

@@ -1,6 +1,5 @@
 -- `talk::talk::press_on` meets its contract: each part of the script is heard as the rule's.
 -- Assumes nothing.
-use borrow.Author.Rules.{rules}
 use mathlib.Core.Path.{refl, sym}
 use Rattle.line_rules.specs.Rules.{press_on}
 use Rattle.sends.proofs.Kept.{send-by-send}

@@ -1,6 +1,5 @@
 -- `telegram_copies::copying::put_form` meets its contract: a copy, and the code's digits.
 -- Assumes nothing.
-use borrow.Author.Rules.{rules}
 use Rattle.telegram_copies.proofs.copying.put_form.Goals as goal
 
 pub returns : goal.returns

@@ -6,7 +6,6 @@ use mathlib.Core.Path.{◌≡◌}
 use native.Mathlib.Omega.{arith}
 use lib.ListN.{set, length-set}
 use lib.Seq.{sets}
-use borrow.Author.Rules.{rules}
 use Rattle.numerals.specs.Digits.{digits_of}
 use Rattle.telegram_forms.proofs.Kept.{put_digits}
 use Rattle.telegram_copies.proofs.copying.put_four.Goals as goal

@@ -1,6 +1,5 @@
 -- `telegram_copies::copying::put_number` meets its contract: the first four digits, and then the last four.
 -- Assumes nothing.
-use borrow.Author.Rules.{rules}
 use Rattle.telegram_forms.proofs.Kept.{put_both}
 use Rattle.telegram_copies.proofs.copying.put_number.Goals as goal
 

@@ -1,6 +1,5 @@
 -- `telegram_forms::digits::eight` meets its contract: the first four digits, and then the last four.
 -- Assumes nothing.
-use borrow.Author.Rules.{rules}
 use Rattle.telegram_forms.proofs.PutLaws.{put_both}
 use Rattle.telegram_forms.proofs.digits.eight.Goals as goal
 

@@ -1,6 +1,5 @@
 -- `telegram_forms::digits::four` meets its contract: the first two digits, and then the last two.
 -- Assumes nothing.
-use borrow.Author.Rules.{rules}
 use Rattle.telegram_forms.proofs.PutLaws.{put_both}
 use Rattle.telegram_forms.proofs.digits.four.Goals as goal
 

@@ -1,6 +1,5 @@
 -- `telegram_forms::digits::header` meets its contract: the digits of its three numbers, in order.
 -- Assumes nothing.
-use borrow.Author.Rules.{rules}
 use lib.ListN.{replicate}
 use Rattle.telegram_forms.specs.Forms.{padded}
 use Rattle.telegram_forms.proofs.PutLaws.{put_header}

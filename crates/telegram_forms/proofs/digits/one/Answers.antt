@@ -1,6 +1,5 @@
 -- `telegram_forms::digits::one` meets its contract, by the law over the width.
 -- Assumes nothing.
-use borrow.Author.Rules.{rules}
 use Rattle.telegram_forms.proofs.PutLaws.{put_digits}
 use Rattle.telegram_forms.proofs.digits.one.Goals as goal
 

@@ -1,6 +1,5 @@
 -- `telegram_forms::digits::two` meets its contract: the first digit, and then the last.
 -- Assumes nothing.
-use borrow.Author.Rules.{rules}
 use Rattle.telegram_forms.proofs.PutLaws.{put_both}
 use Rattle.telegram_forms.proofs.digits.two.Goals as goal
 

@@ -1,6 +1,5 @@
 -- `telegram_forms::messages::answer_reply_form` meets its contract: header and body of the row.
 -- Assumes nothing.
-use borrow.Author.Rules.{rules}
 use Rattle.telegram_forms.proofs.PutLaws.{put_body}
 use Rattle.telegram_forms.proofs.messages.answer_reply_form.Goals as goal
 

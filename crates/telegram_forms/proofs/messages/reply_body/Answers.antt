@@ -1,6 +1,5 @@
 -- `telegram_forms::messages::reply_body` meets its contract: the numbers in the order of the fields.
 -- Assumes nothing.
-use borrow.Author.Rules.{rules}
 use mathlib.Core.List.{[], ◌∷◌}
 use Rattle.telegram.specs.Telegram.{capture_reply}
 use Rattle.telegram_forms.proofs.PutLaws.{put_fields}

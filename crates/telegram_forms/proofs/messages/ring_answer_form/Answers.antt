@@ -1,6 +1,5 @@
 -- `telegram_forms::messages::ring_answer_form` meets its contract: header and body of the row.
 -- Assumes nothing.
-use borrow.Author.Rules.{rules}
 use Rattle.telegram_forms.proofs.PutLaws.{put_body}
 use Rattle.telegram_forms.proofs.messages.ring_answer_form.Goals as goal
 

@@ -1,6 +1,5 @@
 -- `telegram_forms::messages::time_notice_form` meets its contract: header and numbers in the order of the row.
 -- Assumes nothing.
-use borrow.Author.Rules.{rules}
 use Rattle.telegram_forms.proofs.PutLaws.{put_form}
 use Rattle.telegram_forms.proofs.messages.time_notice_form.Goals as goal
 

@@ -1,6 +1,5 @@
 -- `telegram_reader::reader::base_arrival` meets its contract: each field is its number.
 -- Assumes nothing.
-use borrow.Author.Rules.{rules}
 use Rattle.telegram_reader.proofs.reader.base_arrival.Goals as goal
 
 pub returns : goal.returns

@@ -1,7 +1,6 @@
 -- `telegram_reader::reader::message_of` meets its contract: each arm makes the message of its row.
 -- Assumes nothing.
 use mathlib.Core.Path.{sym}
-use borrow.Author.Rules.{rules}
 use Rattle.telegram_reader.proofs.StepLaws.{unlisted}
 use Rattle.telegram_reader.proofs.reader.message_of.Goals as goal
 

@@ -1,7 +1,6 @@
 -- `telegram_reader::reader::read_body` meets its contract: each arm reads the fields of its row.
 -- Assumes nothing.
 use mathlib.Core.Path.{sym, ◌∙◌}
-use borrow.Author.Rules.{rules}
 use Rattle.telegram_reader.proofs.StepLaws.{unlisted}
 use Rattle.telegram_reader.proofs.reader.read_body.Goals as goal
 

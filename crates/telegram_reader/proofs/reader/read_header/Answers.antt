@@ -9,7 +9,6 @@ use borrow.Author.Tests.{not-true, not-false, le-leb, lt-leb, eq-eqb, ne_eqb}
 use Rattle.fields.specs.Fields.{length4, code, values_in}
 use Rattle.fields.proofs.Kept.{fields-found, fields-none}
 use Rattle.telegram.specs.Telegram.{nth, heading, header_ok}
-use borrow.Author.Rules.{rules}
 use Rattle.telegram_reader.proofs.reader.read_header.Goals as goal
 
 pub returns-then-s-lt16 : goal.returns-then-s-lt16

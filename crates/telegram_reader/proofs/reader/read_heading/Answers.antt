@@ -5,7 +5,6 @@ use mathlib.Core.Bool.{true, ◌&&◌, cond, and-true, and_assoc}
 use mathlib.Core.Path.{◌≡◌, sym, ◌∙◌}
 use lib.ListN.{length}
 use lib.Dec.{lit≤}
-use borrow.Author.Rules.{rules}
 use borrow.Author.Tests.{eq-eqb, ne_eqb}
 use Rattle.laws.proofs.Lists.{tab}
 use Rattle.numerals.specs.Digits.{all_digits, value_from}

@@ -7,7 +7,6 @@ use Rattle.fields.specs.declared.lists.Fields.{Fields}
 use Rattle.telegram.specs.Telegram.{table}
 use Rattle.telegram_reader.specs.Steps.{known_in, body_in}
 use Rattle.telegram_reader.proofs.StepLaws.{read_steps}
-use borrow.Author.Rules.{rules}
 use Rattle.telegram_reader.proofs.reader.read_identified.Goals as goal
 
 pub returns-then-not-is_known : goal.returns-then-not-is_known

@@ -1,6 +1,5 @@
 -- `telegram_reader::reader::ring_answer` meets its contract: each field is its number.
 -- Assumes nothing.
-use borrow.Author.Rules.{rules}
 use Rattle.telegram_reader.proofs.reader.ring_answer.Goals as goal
 
 pub returns : goal.returns

@@ -5,7 +5,6 @@ use native.Mathlib.Omega.{arith}
 use lib.ListN.{length}
 use Rattle.telegram.proofs.Kept.{size-most}
 use Rattle.telegram_forms.proofs.Kept.{length-padded, form_over}
-use borrow.Author.Rules.{rules}
 use Rattle.telegram_writer.proofs.writer.put.Goals as goal
 
 pub put_form-requires : goal.put_form-requires

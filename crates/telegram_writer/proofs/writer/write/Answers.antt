@@ -3,9 +3,8 @@
 use mathlib.Core.Path.{sym, ◌∙◌}
 use native.Mathlib.Omega.{arith}
 use lib.ListN.{length}
-use borrow.Author.Tests.{not-true, not-false, le-leb, lt-leb}
+use borrow.Author.Tests.{le-leb, lt-leb}
 use Rattle.telegram.specs.Telegram.{size_of, write_answer, write_into}
-use borrow.Author.Rules.{rules}
 use Rattle.telegram_writer.proofs.writer.write.Goals as goal
 
 pub returns-then-wide : goal.returns-then-wide

@@ -1,7 +1,5 @@
 -- `timers::timers::falls` meets its contract: its tests are the rule's, in the rule's order.
 -- Assumes nothing.
-use borrow.Author.Rules.{rules}
-use borrow.Author.Tests.{not-true, not-false}
 use mathlib.Core.Path.{◌≡◌, sym}
 use mathlib.Core.Bool.{false, ◌||◌}
 use Rattle.channel.specs.State.{is_present}

@@ -1,9 +1,8 @@
 -- `timers::timers::is_due` meets its contract: a timer with more than a second left does not run out.
 -- Assumes nothing.
-use borrow.Author.Rules.{rules}
 use borrow.Enum.Refused.{opened}
 use borrow.Author.Tests.{ltb-true, not-true}
-use mathlib.Core.Path.{refl, sym, ap, ◌∙◌}
+use mathlib.Core.Path.{sym, ap, ◌∙◌}
 use mathlib.Core.Bool.{not, ◌&&◌}
 use lib.Dec.{eqb, ltb}
 use Rattle.laws.proofs.Tests.{both}

@@ -1,6 +1,5 @@
 -- `timers::timers::may_fall` meets its contract.
 -- Assumes nothing.
-use borrow.Author.Rules.{rules}
 use mathlib.Core.Path.{refl}
 use Rattle.timers.proofs.timers.may_fall.Goals as goal
 

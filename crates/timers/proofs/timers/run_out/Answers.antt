@@ -1,6 +1,5 @@
 -- `timers::timers::run_out` meets its contract: by the timer that runs.
 -- Assumes nothing.
-use borrow.Author.Rules.{rules}
 use mathlib.Core.Path.{refl}
 use borrow.Author.Tests.{lt-ltb, le-ltb}
 use Rattle.line_rules.specs.Rules.{unanswered}

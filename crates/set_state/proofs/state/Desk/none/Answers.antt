@@ -1,6 +1,5 @@
 -- `set_state::state::Desk::none` meets its contract: no code, no number, a new link.
 -- Assumes nothing.
-use borrow.Author.Rules.{rules}
 use Rattle.set_state.proofs.state.Desk.none.Goals as goal
 
 pub returns : goal.returns

@@ -1,6 +1,5 @@
 -- `set_state::state::LineSet::new` meets its contract: fillers only, and no plan.
 -- Assumes nothing.
-use borrow.Author.Rules.{rules}
 use Rattle.set_state.proofs.state.LineSet.new.Goals as goal
 
 pub returns : goal.returns
