@@ -1,8 +1,10 @@
 // What a turn of the program does beside stepping the set: finding the next entry, and putting its answer into the text.
-ghost use Rattle.std.specs.Prelude.{◌≡◌, ◌+◌, ◌≤◌, length, take};
+ghost use Rattle.std.specs.Prelude.{◌≡◌, ◌+◌, ◌-◌, ◌≤◌, true, false, length, take};
+ghost use Rattle.std.specs.Io.KnownBytes.{Appends, Consumes, IsAtEnd};
 ghost use Rattle.text.specs.Written.{Puts};
 ghost use Rattle.answer_lines.specs.Lines.{lines_of};
 ghost use Rattle.streams.specs.Places.{Within, Next};
+ghost use Rattle.streams.specs.Promises.{came};
 ghost use Rattle.feeds.specs.Turns.{shown};
 
 use set_state::Reply;
@@ -22,7 +24,10 @@ pub fn next_entry<R: Read, W: Write, E: Write>(
     text: &[u8],
 ) -> Place
     requires { Within input.old at × (12002 ≤ length input.old) × (at.waits ≤ length text.now) × (73776 ≤ length text.now) }
-    ensures { Next 12000 73776 (length text.now) input.old at input.new result }
+    ensures next { Next 12000 73776 (length text.now) input.old at input.new result }
+    ensures reads { result.failed ≡ false → Consumes (R.remaining reader.old) (R.remaining reader.new) (came input.old at input.new result) }
+    ensures end { result.failed ≡ false → result.ended ≡ true → IsAtEnd (R.remaining reader.new) }
+    ensures writes { result.failed ≡ false → Appends (W.contents writer.old) (W.contents writer.new) (take (at.waits - result.waits) text.now) }
 {
     streams::next(
         reader,
