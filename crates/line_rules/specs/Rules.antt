@@ -1,7 +1,7 @@
 -- 01, Line rules, and 02 §1, a mobile that rings one desk: what happens on one channel. Each rule gives the channel after it and what it sends, in order.
-use Rattle.std.specs.Prelude.{ℕ, ◌-◌, List, [], ◌∷◌, ◌++◌, Bool, cond, leb, ltb, eqb}
+use Rattle.std.specs.Prelude.{ℕ, ◌-◌, List, [], ◌∷◌, ◌++◌, Bool, true, false, cond, leb, ltb, eqb}
 use Rattle.telegram.specs.declared.message.Number.{Number}
-use Rattle.channel.specs.State.{only, free_channel, is_held, held_by, holder_place, is_open, is_present}
+use Rattle.channel.specs.State.{only, free_channel, is_held, held_by, holder_place, party_set, is_open, is_present}
 use Rattle.channel.specs.declared.state.Party.{Party}
 use Rattle.channel.specs.declared.state.Party.TheVariants.{Nobody, By}
 use Rattle.channel.specs.declared.state.Call.{Call}
