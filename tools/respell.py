@@ -6,7 +6,8 @@ usage: tools/respell.py [--check] [FOLDER]    (FOLDER has crates/; without it, t
 What specs/ and proofs/ declare with a small first letter turns: 'digitsOf' to 'digits_of', 'by-test' to 'by_test', 'allDigits-append' to
 'all_digits-append' (both are definitions). Types, modules, functions and fields of src/, text and comments stay, but for names between
 backquotes. A name that Rattle makes for a proof (what is declared at a type of 'tie.', and 'F-spec') stays too. If two names would
-become one in some file, nothing is written and both are shown. --check writes nothing and shows the names. A second run changes nothing.
+become one in some file, nothing is written and both are shown. --check writes nothing and shows the names. It was for the one commit that
+respelled the crates (docs/PORT.md): what Rattle makes today has dashes too, which it would take for names of ours.
 """
 
 import collections

@@ -14,8 +14,7 @@ use Rattle.text.specs.Written.{Puts}
 use Rattle.answer_lines.specs.Lines.{lines_of}
 use Rattle.streams.specs.Places.{start, frame_at, unread, Next}
 use Rattle.streams.specs.Promises.{came, Begins}
-use Rattle.streams.proofs.Kept.{hands-first, nothing_left}
-use Rattle.streams.proofs.Known.{gives, none_left, sends_on, has_ended, put_behind}
+use Rattle.streams.proofs.Kept.{hands-first, nothing_left, gives, none_left, sends_on, has_ended, put_behind}
 use Rattle.streams.specs.declared.place.Place.{Place}
 use Rattle.set_state.specs.State.{new_set}
 use Rattle.set_state.specs.declared.state.LineSet.{LineSet}

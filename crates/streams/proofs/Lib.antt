@@ -2,4 +2,4 @@ mod Moving
 mod Nexts
 mod Hands
 pub mod Kept
-pub mod Known
+mod Known

@@ -4,7 +4,7 @@ ghost use Rattle.streams.specs.Places.{start, at_frame, at_end, unreadable};
 
 // The frame lies in the input from `from` to `to`, and the input is filled up to `filled`. It is the frame of that `number`,
 // counted from 1. The first `waits` bytes of the text are still to be written. `ended` says that a read found the end of the
-// input, `failed` that a call of the system failed. Where the program is to stop, it is not `going`.
+// input, `failed` that a read or a write failed. Where the program is to stop, it is not `going`.
 #[derive(Clone, Copy)]
 pub struct Place {
     pub from: usize,

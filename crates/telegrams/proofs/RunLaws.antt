@@ -11,8 +11,7 @@ use Rattle.frames.proofs.Kept.{size-some}
 use Rattle.text.specs.Written.{Puts}
 use Rattle.streams.specs.Places.{start, frame_at, unread, Next}
 use Rattle.streams.specs.Promises.{came, Begins}
-use Rattle.streams.proofs.Kept.{hands-first, nothing_left}
-use Rattle.streams.proofs.Known.{gives, none_left, sends_on, has_ended, put_behind}
+use Rattle.streams.proofs.Kept.{hands-first, nothing_left, gives, none_left, sends_on, has_ended, put_behind}
 use Rattle.streams.specs.declared.place.Place.{Place}
 use Rattle.telegrams.specs.Lines.{whole, frame_line, telegram_lines, shown}
 use Rattle.telegrams.specs.Promises.{Bytes}

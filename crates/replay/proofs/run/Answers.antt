@@ -2,7 +2,7 @@
 -- Assumes nothing.
 use Rattle.std.proofs.Common.{◌≡◌, ℕ, ◌<◌, ◌^◌, List, Some, length, sym, refl, ap, ◌∙◌, arith, rules}
 use borrow.Author.Tests.{not-true, not-false}
-use Rattle.streams.proofs.Known.{unfailed}
+use Rattle.streams.proofs.Kept.{unfailed}
 use Rattle.streams.specs.declared.place.Place.{Place}
 use Rattle.replay.proofs.RunLaws.{Ends, first, turn_goes, turn_ends, turn_stops, spent, printed, where_known}
 use Rattle.replay.proofs.run.Goals as goal
