@@ -1,9 +1,9 @@
 /*
  * The line set of the Imjauska cases, for controllers: desks, channels and the rules of document 01 ("What the build
  * includes and its rules") and of document 02 ("Customer requests after the base"), request 1, entry by entry. Link
- * crates/controller/out/libcontroller.a, which `rt lib` in crates/controller writes for x86-64. Of C it needs memcpy and
- * memmove alone: no allocation, no system call, no global state. What a controller does around it, from its sockets to each
- * refusal, is docs/INTEGRATION.md.
+ * crates/controller/out/libcontroller.a, which `rt lib` in crates/controller writes for x86-64. Of C it needs memcpy,
+ * memmove and memset alone: no allocation, no system call, no global state. What a controller does around it, from its
+ * sockets to each refusal, is docs/INTEGRATION.md.
  *
  * Every function is proved to do what is said of it here (the two sizes are numbers that a test holds to the compiler's
  * layout, as it does the four bytes that a set begins with), for
