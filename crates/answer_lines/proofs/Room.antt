@@ -1,13 +1,12 @@
 -- How much room an answer's lines take: 48 bytes for the entry, and 9 for each 4 of the records at most.
 -- Assumes nothing.
-use Prim.Native.Nat.{ℕ, zero, suc, ◌+◌, ◌*◌, ◌≤◌, ◌<◌}
+use Prim.Native.Nat.{ℕ, zero, suc, ◌+◌, ◌*◌, ◌≤◌}
 use mathlib.Core.List.{List, [], ◌∷◌}
 use mathlib.Core.Logic.{inl, inr}
 use native.Mathlib.Omega.{arith}
-use lib.Dec.{eqb, leb, ltb}
-use lib.ListN.{length, take, drop, get_or, length-drop, length-take, length-append, get_or-eq_default}
-use lib.Seq.{get_or-take, get_or-drop}
-use borrow.Author.Tests.{eqb-true, eqb-false, leb-true, leb-false, ltb-true, ltb-false}
+use lib.Dec.{eqb, leb}
+use lib.ListN.{length, take, drop, length-drop, length-take, length-append}
+use borrow.Author.Tests.{eqb-true, eqb-false, leb-true, leb-false}
 use Rattle.laws.proofs.Tests.{by_test}
 use Rattle.frames.specs.Bytes.{byte, word}
 use Rattle.frames.specs.Frames.{frames_to}
@@ -16,19 +15,7 @@ use Rattle.text.proofs.Kept.{decimal-length}
 use Rattle.answer_lines.specs.Lines.{record_line, record_lines}
 use Rattle.answer_lines.specs.Promises.{RoomEnough}
 use Rattle.answer_lines.proofs.LineLaws.{entry_length, telegram-length, contact-length, kind-there, line-telegram, line-contact, line_other}
-use Rattle.answer_lines.proofs.Turns.{answer-length}
-
--- a list of bytes
-abbrev pub Bytes : List ℕ → Type 0
-Bytes bs = (i : ℕ) → get_or bs i 0 < 256
-
-bytes_drop : (n : ℕ) (bs : List ℕ) → Bytes bs → Bytes (drop n bs)
-bytes_drop n bs h i = rw (get_or-drop n bs i 0) (h (n + i))
-
-pub bytes_take : (n : ℕ) (bs : List ℕ) → Bytes bs → Bytes (take n bs)
-bytes_take n bs h i =
-    by_test (ltb i n) (λ e. rw (get_or-take n bs i 0 (ltb-true i n e)) (h i))
-    (λ e. let l = ltb-false i n e in rw (get_or-eq_default (take n bs) 0 {n = i} (simp length-take (omega arith))) (omega arith))
+use Rattle.answer_lines.proofs.Turns.{Bytes, bytes_take, bytes_drop, answer-length}
 
 -- a byte has three digits at most
 byte-digits : (bs : List ℕ) → Bytes bs → (i : ℕ) → length (decimal (byte bs i)) ≤ 3

@@ -1,13 +1,16 @@
 -- The lines of records, record by record: what is put so far, and the turn that puts the next.
 -- Assumes nothing.
-use Prim.Native.Nat.{ℕ, ◌+◌, ◌-◌, ◌≤◌, ◌<◌}
+use Prim.Native.Nat.{ℕ, ◌+◌, ◌≤◌, ◌<◌}
 use mathlib.Core.List.{List, [], ◌++◌, append_assoc, append-nil}
 use mathlib.Core.Bool.{true}
 use mathlib.Core.Path.{◌≡◌, refl, sym, ap, ◌∙◌}
 use native.Mathlib.Omega.{arith}
-use lib.ListN.{length, take, drop, get_or, length-drop, length-append, drop_of_length-le}
-use lib.Seq.{drop-drop, get_or-drop}
-use Rattle.laws.proofs.Lists.{part_to_end}
+use lib.Dec.{ltb}
+use lib.ListN.{length, take, drop, get_or, length-take, length-append, get_or-eq_default}
+use lib.Seq.{get_or-take, get_or-drop}
+use borrow.Author.Tests.{ltb-true, ltb-false}
+use Rattle.laws.proofs.Tests.{by_test}
+use Rattle.laws.proofs.Lists.{none-long}
 use Rattle.frames.specs.Bytes.{word}
 use Rattle.frames.specs.Frames.{frames_to, frames_in, frame_size}
 use Rattle.frames.proofs.Kept.{first_frame, size-within, size-some, size_cuts}
@@ -48,36 +51,40 @@ module _ {b₀ : List ℕ} {at : ℕ} {total b : List ℕ} {p : ℕ} {rest : Lis
 
 -- ---- a turn over the records
 
--- the first record from a place on
-pub record Turn (rs : List ℕ) (from size : ℕ) : Type 0 where
-  pub within : from + size ≤ length rs
+-- a list of bytes
+abbrev pub Bytes : List ℕ → Type 0
+Bytes bs = (i : ℕ) → get_or bs i 0 < 256
+
+pub bytes_drop : (n : ℕ) (bs : List ℕ) → Bytes bs → Bytes (drop n bs)
+bytes_drop n bs h i = rw (get_or-drop n bs i 0) (h (n + i))
+
+pub bytes_take : (n : ℕ) (bs : List ℕ) → Bytes bs → Bytes (take n bs)
+bytes_take n bs h i =
+    by_test (ltb i n) (λ e. rw (get_or-take n bs i 0 (ltb-true i n e)) (h i))
+    (λ e. let l = ltb-false i n e in rw (get_or-eq_default (take n bs) 0 {n = i} (simp length-take (omega arith))) (omega arith))
+
+-- the first of some records, of so many bytes
+pub record Turn (rs : List ℕ) (size : ℕ) : Type 0 where
+  pub within : size ≤ length rs
   pub some : 0 < size
-  pub parts : Split (record_lines (frames_in (drop from rs))) (record_line (take (from + size - from) (drop from rs))) (record_lines (frames_in (drop (from + size) rs)))
+  pub parts : Split (record_lines (frames_in rs)) (record_line (take size rs)) (record_lines (frames_in (drop size rs)))
 
 first-line : (w : List ℕ) → word w 0 ≤ 65535 → 0 < length w
     → record_lines (frames_in w) ≡ record_line (take (frame_size 65535 w true) w) ++ record_lines (frames_in (drop (frame_size 65535 w true) w))
 unfolding record_lines
 first-line w h l = rw (first_frame w l, (size_cuts 65535 w h).0, (size_cuts 65535 w h).1)
 
-pub turn : (rs : List ℕ) (from size : ℕ) → ((i : ℕ) → get_or rs i 0 < 256) → from < length rs
-    → size ≡ frame_size 65535 (take (length rs - from) (drop from rs)) true → Turn rs from size
-turn rs from size b h e =
-    let s : size ≡ frame_size 65535 (drop from rs) true = rw (part_to_end rs from) at e in
-    let d : length (drop from rs) ≡ length rs - from = length-drop from rs in
-    let i : 0 < length (drop from rs) = omega arith in
-    let j : word (drop from rs) 0 ≤ 65535 = omega (arith, b (from + 0), b (from + 1), get_or-drop from rs 0 0, get_or-drop from rs 1 0) in
-    let w : size ≤ length (drop from rs) = rw s (size-within 65535 (drop from rs) true) in
-    let k : from + size - from ≡ size = omega arith in
-    record {
-      within = omega arith;
-      some = rw s (size-some 65535 (drop from rs) i);
-      parts = record { is = rw (k, ← drop-drop size from rs, s) (first-line (drop from rs) j i) };
-    }
+pub turn : (rs : List ℕ) (size : ℕ) → Bytes rs → 0 < length rs → size ≡ frame_size 65535 rs true → Turn rs size
+turn rs size b h e = record {
+  within = rw e (size-within 65535 rs true);
+  some = rw e (size-some 65535 rs h);
+  parts = record { is = rw e (first-line rs (omega (arith, b 0, b 1)) h) };
+}
 
--- behind the last record there is no line
-pub lines_past : (rs : List ℕ) (from : ℕ) → length rs ≤ from → record_lines (frames_in (drop from rs)) ≡ []
+-- no records have no line
+pub no_lines : (rs : List ℕ) → length rs ≡ 0 → record_lines (frames_in rs) ≡ []
 unfolding record_lines frames_to
-lines_past rs from h = rw (drop_of_length-le rs {i = from} h)
+no_lines rs h = rw (none-long rs h)
 
 -- ---- an answer
 

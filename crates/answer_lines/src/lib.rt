@@ -17,13 +17,13 @@ fn put_records(records: &[u8], text: &mut [u8], at: usize) -> usize
     requires { at + length (record_lines (frames_in records.now)) ≤ length text.old }
     ensures { Puts text.old at (record_lines (frames_in records.now)) text.new result }
 {
-    let mut from = 0;
+    let mut rest = records;
     let mut place = at;
-    while from < records.len() {
-        let size = frames::frame_size(&records[from..], 65535, true);
-        let to = from + size;
-        place = lines::put_record(&records[from..to], text, place);
-        from = to;
+    while !rest.is_empty() {
+        let size = frames::frame_size(rest, 65535, true);
+        let (record, behind) = rest.split_at(size);
+        place = lines::put_record(record, text, place);
+        rest = behind;
     }
     place
 }
@@ -41,10 +41,8 @@ fn put_lines(
     ensures { Puts text.old at (lines_of number refusal count (take count buffer.now)) text.new result }
 {
     let place = lines::put_entry(number, refusal, count, text, at);
-    if buffer.len() < count {
-        return put_records(buffer, text, place);
-    }
-    put_records(&buffer[..count], text, place)
+    let written = count.min(buffer.len());
+    put_records(&buffer[..written], text, place)
 }
 
 // The lines of an answer whose records are the first `count` bytes of a buffer.

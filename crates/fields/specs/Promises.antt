@@ -1,9 +1,10 @@
 -- What is promised of lists of fields, beside the contracts. `proofs/Kept.antt` has the proof of each
 -- under the name given with it, and is the one module of the proofs that other crates cite.
-use Rattle.std.specs.Prelude.{ℕ, ◌≤◌, List, true, false, ◌≡◌, length}
+use Rattle.std.specs.Prelude.{ℕ, ◌≤◌, List, true, false, ◌≡◌, length, Some, None}
+use Rattle.laws.specs.Each.{Each}
 use Rattle.fields.specs.Fields.{Field, body_ok, values_in, all_in, bytes_of, body_size}
 use Rattle.fields.specs.Held.{fields_of, padded, fields_in, fields_by_spelling}
-use Rattle.fields.specs.declared.lists.Fields.{Fields}
+use Rattle.fields.specs.declared.rules.Field.{Field as Named}
 
 -- What is written is as long as its fields are wide (`length-bytes`).
 abbrev pub AsLong : Type 0
@@ -28,12 +29,16 @@ WrittenForm =
 -- what are not their bytes (`fields-none`).
 abbrev pub FieldsFound : Type 0
 FieldsFound =
-    (fs : List Field) (b : List ℕ) (f : Fields) → f ≡ fields_in fs b → f.ok ≡ true
-    → (body_ok fs 0 0 b ≡ true) × (f.values ≡ padded (values_in fs b))
+    (fs : List Field) (b vs : List ℕ) → fields_in fs b ≡ Some vs → (body_ok fs 0 0 b ≡ true) × (vs ≡ padded (values_in fs b))
 
 abbrev pub FieldsRefused : Type 0
-FieldsRefused = (fs : List Field) (b : List ℕ) (f : Fields) → f ≡ fields_in fs b → length fs ≤ 11 → f.ok ≡ false → body_ok fs 0 0 b ≡ false
+FieldsRefused = (fs : List Field) (b : List ℕ) → fields_in fs b ≡ None → length fs ≤ 11 → body_ok fs 0 0 b ≡ false
 
--- At most eleven fields read alike from what the bytes of each spell (`fields-spelt`).
+-- At most eleven fields of at most nine digits each read alike from what the bytes of each spell (`fields-spelt`), and so do those that
+-- the code names (`named-spelt`).
 abbrev pub ReadBySpelling : Type 0
-ReadBySpelling = (ks b : List ℕ) → length ks ≤ 11 → fields_in (fields_of ks) b ≡ fields_by_spelling (fields_of ks) b
+ReadBySpelling =
+    (fs : List Field) (b : List ℕ) → Each (λ (f : Field). f.width ≤ 9) fs → length fs ≤ 11 → fields_in fs b ≡ fields_by_spelling fs b
+
+abbrev pub NamedBySpelling : Type 0
+NamedBySpelling = (ks : List Named) (b : List ℕ) → length ks ≤ 11 → fields_in (fields_of ks) b ≡ fields_by_spelling (fields_of ks) b

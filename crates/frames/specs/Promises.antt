@@ -1,6 +1,6 @@
 -- What is promised of frames, beside the contracts. `proofs/Kept.antt` has the proof of each under the name given with it, and is
 -- the one module of the proofs that other crates cite.
-use Rattle.std.specs.Prelude.{ℕ, ◌+◌, ◌≤◌, ◌<◌, List, [], ◌∷◌, ◌++◌, Bool, true, false, ◌≡◌, length, take, drop}
+use Rattle.std.specs.Prelude.{ℕ, ◌+◌, ◌≤◌, ◌<◌, List, ◌∷◌, ◌++◌, Bool, true, false, ◌≡◌, length, take, drop}
 use Rattle.frames.specs.Bytes.{word}
 use Rattle.frames.specs.Frames.{frames_to, frames_in, frame_size}
 

@@ -4,5 +4,5 @@
 mod bytes;
 mod frame;
 
-pub use bytes::{byte, wide, word};
+pub use bytes::{byte, word};
 pub use frame::frame_size;

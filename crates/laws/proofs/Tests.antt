@@ -2,6 +2,8 @@
 -- Assumes nothing.
 use mathlib.Core.Bool.{Bool, true, false, ◌&&◌, ◌||◌, cond, false≢true, true≢false}
 use mathlib.Core.Path.{◌≡◌, refl, sym, ap, ◌∙◌}
+use Rattle.std.specs.Prelude.{Some, None}
+use Rattle.std.proofs.lemmas.Option.{none-some}
 
 -- both halves of a conjunction
 pub both : (a b : Bool) → (a && b) ≡ true → (a ≡ true) × (b ≡ true)
@@ -42,7 +44,12 @@ pub cond-left : {A : Type 0} (t : Bool) (a b : A) {c : A} → cond t a b ≡ c �
 cond-left true a b e n = absurd (n e)
 cond-left false a b e n = (refl, e)
 
--- the same where a flag tells the two branches apart
+-- what is given where a test holds alone is not given where it fails; the library's `cond_some` is of the other case
+pub cond_none : {A : Type 0} (t : Bool) (x : A) → cond t (Some x) None ≡ None → t ≡ false
+cond_none true x e = absurd (none-some x (sym e))
+cond_none false x e = refl
+
+-- a choice whose branches a flag tells apart
 pub flag-taken : {A : Type 0} (flag : A → Bool) (t : Bool) (a b : A) {c : A} → c ≡ cond t a b → flag b ≡ false → flag c ≡ true → (t ≡ true) × (c ≡ a)
 flag-taken flag true a b e h k = (refl, e)
 flag-taken flag false a b e h k = absurd (false≢true (sym h ∙ (ap flag (sym e) ∙ k)))

@@ -1,9 +1,8 @@
 -- What is promised of numbers as digits, beside the contracts. `proofs/Kept.antt` has the proof of each under the name given
 -- with it, and is the one module of the proofs that other crates cite.
-use Rattle.std.specs.Prelude.{ℕ, zero, suc, ◌+◌, ◌/◌, ◌%◌, ◌^◌, ◌≤◌, ◌<◌, List, [], ◌∷◌, ◌++◌, true, false, cond, ◌≡◌, ltb, length}
+use Rattle.std.specs.Prelude.{ℕ, zero, suc, ◌+◌, ◌/◌, ◌%◌, ◌^◌, ◌≤◌, ◌<◌, List, [], ◌∷◌, ◌++◌, true, false, cond, ◌≡◌, ltb, length, Some, None}
 use Rattle.numerals.specs.Digits.{digits_of, all_digits, value_of, digits_in}
 use Rattle.numerals.specs.Held.{as_number}
-use Rattle.numerals.specs.declared.digits.Digits.TheVariants.{Value, Malformed}
 
 -- A number at a width has that many digits (`length_digits`), and they are digits (`digits-digits`).
 abbrev pub AsWide : Type 0
@@ -42,14 +41,14 @@ SpellBelow = (bs : List ℕ) → all_digits bs ≡ true → value_of bs < 10 ^ l
 -- Of any bytes the reader finds a number in digits alone, the one that they spell (`value_found`), and of at most nine it
 -- refuses only those that are not all digits (`malformed_found`).
 abbrev pub DigitsFound : Type 0
-DigitsFound = (bs : List ℕ) (v : ℕ) → digits_in bs ≡ Value v → (all_digits bs ≡ true) × (value_of bs ≡ v)
+DigitsFound = (bs : List ℕ) (v : ℕ) → digits_in bs ≡ Some v → (all_digits bs ≡ true) × (value_of bs ≡ v)
 
 abbrev pub DigitsRefused : Type 0
-DigitsRefused = (bs : List ℕ) → length bs ≤ 9 → digits_in bs ≡ Malformed → all_digits bs ≡ false
+DigitsRefused = (bs : List ℕ) → length bs ≤ 9 → digits_in bs ≡ None → all_digits bs ≡ false
 
--- A number that was read is not a refusal (`value_None`).
+-- A number that was read is not a refusal (`value_none`).
 abbrev pub NotBoth : Type 0
-NotBoth = (v : ℕ) → Value v ≡ Malformed → ⊥
+NotBoth = (v : ℕ) → Some v ≡ None → ⊥
 
 -- What at most nine bytes spell fits their count exactly where all of them are digits (`spelt-fits`), and they read alike from
 -- it (`digits-spelt`).
@@ -58,4 +57,4 @@ FitsIfDigits = (bs : List ℕ) → length bs ≤ 9 → ltb (as_number bs) (10 ^ 
 
 abbrev pub DigitsBySpelling : Type 0
 DigitsBySpelling =
-    (bs : List ℕ) → length bs ≤ 9 → digits_in bs ≡ cond (ltb (as_number bs) (10 ^ length bs)) (Value (as_number bs)) Malformed
+    (bs : List ℕ) → length bs ≤ 9 → digits_in bs ≡ cond (ltb (as_number bs) (10 ^ length bs)) (Some (as_number bs)) None

@@ -3,4 +3,4 @@
 
 mod digits;
 
-pub use digits::{Digits, eight, four, read_digits};
+pub use digits::{eight, four, read_digits};

@@ -1,8 +1,7 @@
 -- Texts as bytes.
 use Rattle.std.specs.Prelude.{ℕ, List, [], ◌∷◌}
-use Prim.Native.Char.{Char, code}
+use Prim.Native.Char.{code}
 use Prim.Native.String.{String}
-use Prim.Native.String as String
 
 -- the bytes of a text in ASCII
 unfoldable pub ascii : String → List ℕ

@@ -1,8 +1,9 @@
 // Bytes and numbers as text. Each function puts bytes at a place of a text that has room for them, and gives the place
 // after.
+// (No cursor of text and place: each contract would gain a clause, that it still holds the same text, and each asks for other room.)
 #![tactic(auto)]
 
-ghost use Rattle.std.specs.Prelude.{◌≡◌, [], ◌∷◌, ◌++◌, ◌+◌, ◌%◌, ◌≤◌, ◌<◌, length, nat_abs};
+ghost use Rattle.std.specs.Prelude.{◌≡◌, [], ◌∷◌, ◌++◌, ◌+◌, ◌%◌, ◌≤◌, ◌<◌, length};
 ghost use Rattle.numerals.specs.Digits.{digits_of};
 ghost use Rattle.text.specs.Written.{Puts};
 ghost use Rattle.text.specs.Decimal.{decimal, signed};
@@ -21,12 +22,8 @@ pub fn put_bytes(bytes: &[u8], text: &mut [u8], at: usize) -> usize
     requires { at + length bytes.now ≤ length text.old }
     ensures { Puts text.old at bytes.now text.new result }
 {
-    let mut i = 0;
-    while i < bytes.len() {
-        text[at + i] = bytes[i];
-        i += 1;
-    }
-    at + i
+    text[at..at + bytes.len()].copy_from_slice(bytes);
+    at + bytes.len()
 }
 
 // The last digit of a number.
@@ -97,22 +94,12 @@ pub fn put_item(number: u64, after: u8, text: &mut [u8], at: usize) -> usize
     put_byte(after, text, end)
 }
 
-// How far a number is from zero.
-fn magnitude(n: i64) -> u64
-    ensures { result ≡ nat_abs n }
-{
-    if n < 0 {
-        return (-1 - n) as u64 + 1;
-    }
-    n as u64
-}
-
 // A number that may be below zero: a minus sign, and how far below.
 pub fn put_signed(n: i64, text: &mut [u8], at: usize) -> usize
     requires { at + length (signed n) ≤ length text.old }
     ensures { Puts text.old at (signed n) text.new result }
 {
-    let size = magnitude(n);
+    let size = n.unsigned_abs();
     if n < 0 {
         let place = put_byte(b'-', text, at);
         return put_number(size, text, place);

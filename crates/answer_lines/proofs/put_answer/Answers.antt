@@ -4,7 +4,8 @@ use Prim.Native.Nat.{◌≤◌}
 use native.Mathlib.Omega.{arith}
 use lib.ListN.{length, take, length-take}
 use Rattle.answer_lines.specs.Lines.{lines_of}
-use Rattle.answer_lines.proofs.Room.{bytes_take, lines_room}
+use Rattle.answer_lines.proofs.Room.{lines_room}
+use Rattle.answer_lines.proofs.Turns.{bytes_take}
 use Rattle.answer_lines.proofs.put_answer.Goals as goal
 use Rattle.answer_lines.proofs.put_answer.Goals.{After-shared_slice_known-1}
 

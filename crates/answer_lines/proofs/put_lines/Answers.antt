@@ -1,14 +1,10 @@
 -- `answer_lines::put_lines` meets its contract: the entry's line, and then those of the records.
 -- Assumes nothing.
-use Prim.Native.Nat.{ℕ}
-use mathlib.Core.List.{List}
-use mathlib.Core.Path.{◌≡◌, ap, sym}
+use mathlib.Core.Path.{◌≡◌}
 use native.Mathlib.Omega.{arith}
-use lib.ListN.{length, take}
-use lib.Seq.{take_all, length-take-le}
-use Rattle.frames.specs.Frames.{frames_in}
+use lib.ListN.{take}
+use Rattle.std.proofs.lemmas.List.{take_min}
 use Rattle.text.proofs.Kept.{also}
-use Rattle.answer_lines.specs.Lines.{record_lines}
 use Rattle.answer_lines.proofs.Turns.{answer-parts, answer-length}
 use Rattle.answer_lines.proofs.put_lines.Goals as goal
 
@@ -19,31 +15,12 @@ put_entry-place-requires c =
 
 pub put_records-requires : goal.put_records-requires
 put_records-requires c =
-    let d = c in
-    let a = d.args in
-    let e : take a.count a.buffer.now ≡ a.buffer.now = take_all a.count a.buffer.now (omega arith) in
-    let l = ap length (ap (λ (bs : List ℕ). record_lines (frames_in bs)) e) in
-    omega (arith, l, d.put_entry-place.ensures.place, answer-length a.number a.refusal a.count (take a.count a.buffer.now))
-
-pub returns-then-buffer-count : goal.returns-then-buffer-count
-returns-then-buffer-count c =
-    let d = c in
-    let a = d.args in
-    let e : take a.count a.buffer.now ≡ a.buffer.now = take_all a.count a.buffer.now (omega arith) in
-    rw (answer-parts, e) (also d.put_entry-place.ensures c.put_records.ensures)
-
-pub slice_bounds-put_records-end : goal.slice_bounds-put_records-end
-slice_bounds-put_records-end c =
     let a = c.args in
-    sym (length-take-le a.count a.buffer.now (omega arith))
-
-pub put_records-requires-2 : goal.put_records-requires-2
-put_records-requires-2 c =
-    let d = c in
-    let a = d.args in
-    omega (arith, d.put_entry-place.ensures.place, answer-length a.number a.refusal a.count (take a.count a.buffer.now))
+    let e : take c.min-written.result a.buffer.now ≡ take a.count a.buffer.now = rw c.min-written.ensures (take_min a.count a.buffer.now) in
+    rw e (omega (arith, c.put_entry-place.ensures.place, answer-length a.number a.refusal a.count (take a.count a.buffer.now)))
 
 pub returns : goal.returns
 returns c =
-    let d = c in
-    rw answer-parts (also d.put_entry-place.ensures c.put_records-2.ensures)
+    let a = c.args in
+    let e : take c.min-written.result a.buffer.now ≡ take a.count a.buffer.now = rw c.min-written.ensures (take_min a.count a.buffer.now) in
+    rw (answer-parts, ← e) (also c.put_entry-place.ensures c.put_records.ensures)

@@ -1,44 +1,33 @@
--- `answer_lines::put_records` meets its contract: record by record. The invariant: the lines of the records from `from` on are left.
+-- `answer_lines::put_records` meets its contract: record by record. The invariant: the lines of the rest are left.
 -- Assumes nothing.
+use mathlib.Core.Path.{sym}
 use native.Mathlib.Omega.{arith}
-use Rattle.text.proofs.Kept.{puts-length}
-use Rattle.answer_lines.proofs.Turns.{start, next, room, ended, Turn, turn, lines_past}
+use borrow.Author.Tests.{eqb-true, eqb-false}
+use Rattle.answer_lines.proofs.Turns.{bytes_drop, start, next, room, ended, Turn, turn, no_lines}
 use Rattle.answer_lines.proofs.put_records.Goals as goal
 use Rattle.answer_lines.proofs.put_records.Goals.{After-frame_size-size}
 
 -- the record that this turn shows
-now : (c : After-frame_size-size)
-    → Turn c.args.records.now c.loop-from.from c.frame_size-size.result
-now c =
-    turn _ _ _ (λ i. omega (arith, c.shared_slice_known-1.given i)) c.loop-from-test.true
-    c.frame_size-size.ensures
+now : (c : After-frame_size-size) → Turn c.loop-rest.rest.now c.frame_size-size.result
+now c = turn _ _ c.loop-rest.invariant.1 (omega (arith, eqb-false _ 0 (sym c.loop-rest-test.ensures))) c.frame_size-size.ensures
 
-pub loop-from-init : goal.loop-from-init
-loop-from-init c = (start _ _ _, omega arith)
+pub loop-rest-init : goal.loop-rest-init
+loop-rest-init c = (start _ _ _, λ i. omega (arith, c.type_inv.records i))
 
-pub overflow_add-to : goal.overflow_add-to
-overflow_add-to c = omega (arith, (now (goal.at.overflow_add-to c).After-frame_size-size).within)
-
-pub slice_bounds-put_record-end : goal.slice_bounds-put_record-end
-slice_bounds-put_record-end c = omega (arith, (now (goal.at.slice_bounds-put_record-end c).After-frame_size-size).within)
+pub split_at-requires : goal.split_at-requires
+split_at-requires c = (now (goal.at.split_at-requires c).After-frame_size-size).within
 
 pub put_record-place-requires : goal.put_record-place-requires
 put_record-place-requires c =
-    let d = c in
-    room d.loop-from.invariant.0 (now (goal.at.put_record-place-requires c).After-frame_size-size).parts d.requires
+    rw c.split_at.ensures.front (room c.loop-rest.invariant.0 (now (goal.at.put_record-place-requires c).After-frame_size-size).parts c.requires)
 
-pub loop-from-smaller : goal.loop-from-smaller
-loop-from-smaller c = let t = now (goal.at.loop-from-smaller c).After-frame_size-size in omega (arith, t.within, t.some)
+pub loop-rest-smaller : goal.loop-rest-smaller
+loop-rest-smaller c = let t = now (goal.at.loop-rest-smaller c).After-frame_size-size in omega (arith, t.some, t.within, c.split_at.ensures.back_len)
 
-pub loop-from-preserved : goal.loop-from-preserved
-loop-from-preserved c =
-    let d = c in
-    (next d.loop-from.invariant.0 (now (goal.at.loop-from-preserved c).After-frame_size-size).parts c.put_record-place.ensures, (now (goal.at.loop-from-preserved c).After-frame_size-size).within)
-
-pub shape_of-text : goal.shape_of-text
-shape_of-text c = puts-length c.loop-from.invariant.0.puts
+pub loop-rest-preserved : goal.loop-rest-preserved
+loop-rest-preserved c =
+    let parts = (now (goal.at.loop-rest-preserved c).After-frame_size-size).parts in
+    rw c.split_at.ensures.back (next c.loop-rest.invariant.0 parts (rw c.split_at.ensures.front at c.put_record-place.ensures), bytes_drop _ _ c.loop-rest.invariant.1)
 
 pub returns : goal.returns
-returns c =
-    let l = c.loop-from in
-    ended l.invariant.0 (lines_past c.args.records.now l.from (omega arith))
+returns c = ended c.loop-rest.invariant.0 (no_lines _ (eqb-true _ 0 (sym c.loop-rest-test.ensures)))

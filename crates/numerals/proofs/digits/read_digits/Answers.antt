@@ -1,65 +1,61 @@
 -- `numerals::digits::read_digits` meets its contract. The invariant: the bytes passed are digits and spell `v`.
 -- Assumes nothing.
 use Prim.Native.Nat.{ℕ, ◌≤◌, ◌<◌, ◌^◌}
-use mathlib.Core.Path.{◌≡◌, refl, sym, ◌∙◌}
-use mathlib.Core.Bool.{false, and-false}
+use mathlib.Core.Path.{◌≡◌, sym, ◌∙◌}
+use mathlib.Core.Bool.{true, false, and-false}
 use mathlib.Core.List.{List}
 use native.Mathlib.Omega.{arith}
 use native.Mathlib.Nat.{pow-le-pow_right, pow-succ'}
 use native.Mathlib.Numerals.{add-one}
 use lib.ListN.{length, drop, get_or}
-use borrow.Author.Rules.{rules}
-use borrow.Author.Tests.{lt-leb, le-leb}
+use Rattle.std.specs.Prelude.{None}
 use Rattle.numerals.specs.Digits.{all_digits, is_digit, digits_in}
-use Rattle.numerals.specs.declared.digits.Digits.TheVariants.{Malformed}
-use Rattle.numerals.proofs.DigitLaws.{digits_step, digits-stop, digits-done, digits-found, digits_long}
+use Rattle.numerals.proofs.DigitLaws.{digit_high, digits_step, digits-stop, digits-done, digits-found, digits_long}
 use Rattle.numerals.proofs.digits.read_digits.Goals as goal
-use Rattle.numerals.proofs.digits.read_digits.Goals.{Else-above}
+use Rattle.numerals.proofs.digits.read_digits.Goals.{Else-not-is_digit}
 
 pub returns-then-s-gt9 : goal.returns-then-s-gt9
 returns-then-s-gt9 c = sym (digits_long c.args.s.now c.if-s-gt9.true)
 
-pub loop-i-init : goal.loop-i-init
-loop-i-init c = (search rules, omega arith, refl, refl)
-
 -- a byte that is no digit, among at most nine
-stop : (s : List ℕ) (i : ℕ) → all_digits s ≡ all_digits (drop i s) → i < length s → is_digit (get_or s i 0) ≡ false → digits_in s ≡ Malformed
+stop : (s : List ℕ) (i : ℕ) → all_digits s ≡ all_digits (drop i s) → i < length s → is_digit (get_or s i 0) ≡ false → digits_in s ≡ None
 stop s i e h d = rw (e ∙ digits-stop s i h d) (simp and-false)
 
-pub returns-then-b-lt48 : goal.returns-then-b-lt48
-returns-then-b-lt48 c =
-    let l = c.loop-i in
-    sym (stop c.args.s.now l.i l.invariant.2 (search rules) (simp (lt-leb _ _ c.if-b-lt48.true)))
+pub returns-then-not-is_digit : goal.returns-then-not-is_digit
+returns-then-not-is_digit c =
+    let l = c.loop-b in
+    sym (stop c.args.s.now l.b-index l.invariant.1 c.loop-b-test.true (sym c.is_digit.ensures ∙ c.if-not-is_digit.true))
 
-pub returns-then-above : goal.returns-then-above
-returns-then-above c =
-    let l = c.loop-i in
-    sym (stop c.args.s.now l.i l.invariant.2 (search rules) (simp (le-leb _ _ c.if-b-lt48.false, lt-leb _ _ c.if-above.true)))
+-- a digit, and at most eight digits before it
+digit : (c : Else-not-is_digit) → is_digit (get_or c.args.s.now c.loop-b.b-index 0) ≡ true
+digit c = sym c.is_digit.ensures ∙ c.if-not-is_digit.false
 
--- at most eight digits have been passed
-small : (c : Else-above) → c.loop-i.v < 10 ^ 8
+small : (c : Else-not-is_digit) → c.loop-b.v < 10 ^ 8
 small c =
-    let l = c.loop-i in
-    let p : 10 ^ l.i ≤ 10 ^ 8 = pow-le-pow_right (omega arith) {i = l.i} {j = 8} (omega arith) in
+    let l = c.loop-b in
+    let p : 10 ^ l.b-index ≤ 10 ^ 8 = pow-le-pow_right (omega arith) {i = l.b-index} {j = 8} (omega arith) in
     omega arith
 
 pub overflow_mul-v : goal.overflow_mul-v
-overflow_mul-v c = omega (arith, small (goal.at.overflow_mul-v c).Else-above)
+overflow_mul-v c = omega (arith, small (goal.at.overflow_mul-v c).Else-not-is_digit)
 
 pub overflow_add-v : goal.overflow_add-v
-overflow_add-v c = omega (arith, small (goal.at.overflow_add-v c).Else-above)
+overflow_add-v c =
+    let e = (goal.at.overflow_add-v c).Else-not-is_digit in
+    omega (arith, small e, digit_high (get_or c.args.s.now c.loop-b.b-index 0) (digit e))
 
-pub loop-i-preserved : goal.loop-i-preserved
-loop-i-preserved c =
-    let l = c.loop-i in
+pub loop-b-preserved : goal.loop-b-preserved
+loop-b-preserved c =
+    let l = c.loop-b in
     let s = c.args.s.now in
-    let d = digits_step s l.i l.v (search rules) (simp (le-leb _ _ c.if-b-lt48.false, le-leb _ _ c.if-above.false)) in
-    (search rules, rw (add-one, pow-succ') (omega arith), l.invariant.2 ∙ d.0, l.invariant.3 ∙ d.1)
+    let t = digit (goal.at.loop-b-preserved c).Else-not-is_digit in
+    let d = digits_step s l.b-index l.v c.loop-b-test.true t in
+    (rw (add-one, pow-succ') (omega (arith, digit_high (get_or s l.b-index 0) t)), l.invariant.1 ∙ d.0, l.invariant.2 ∙ d.1)
 
 pub returns : goal.returns
 returns c =
-    let l = c.loop-i in
+    let l = c.loop-b in
     let s = c.args.s.now in
-    let d = digits-done s l.i l.v (search rules) in
+    let d = digits-done s l.b-index l.v (omega arith) in
     let n : length s ≤ 9 = c.if-s-gt9.false in
-    rw (digits-found s n, l.invariant.2 ∙ d.0, l.invariant.3 ∙ d.1)
+    rw (digits-found s n, l.invariant.1 ∙ d.0, l.invariant.2 ∙ d.1)
