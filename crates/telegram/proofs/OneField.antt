@@ -9,6 +9,7 @@ use native.Mathlib.Nat.{zero-add}
 use lib.ListN.{length, get_or, take, drop, set}
 use lib.Seq.{drop-drop, get_or-set_other}
 use lib.Dec.{leb, lit<}
+use Rattle.std.specs.Prelude.{Ok, Err}
 use Rattle.laws.specs.Alike.{AlikeBut}
 use Rattle.laws.specs.Each.{Each}
 use Rattle.laws.proofs.Alike.{part-alike, byte-alike, rest-alike}
@@ -16,9 +17,9 @@ use Rattle.laws.proofs.Each.{◌▹◌}
 use Rattle.numerals.specs.Digits.{digits_of, all_digits, value_of}
 use Rattle.numerals.proofs.Kept.{digits-digits, value_digits}
 use Rattle.fields.specs.Fields.{Field, plain, channel, call_type, len, number, body_ok, values_in, body_size}
-use Rattle.telegram.specs.Telegram.{nth, ring_answer, read_row, heading, header_ok, read_telegram}
+use Rattle.telegram.specs.Telegram.{nth, ring_answer, under, read_row, heading, header_ok, read_telegram}
 use Rattle.telegram.specs.Promises.{digits_at, AlikeButSource, refused, read, SourceApart}
-use Rattle.telegram.specs.declared.message.Reading.TheVariants.{Telegram, Refused}
+use Rattle.telegram.specs.declared.message.ReadError.TheVariants.{Header, Body}
 
 -- ---- bodies
 
@@ -91,14 +92,14 @@ header_alike s t w =
 
 -- bytes with that identifier read by their header and their body
 by_row : (s : List ℕ) → take 6 (drop 10 s) ≡ digits_of 6 550419
-    → read_telegram s ≡ cond (header_ok s) (read_row ring_answer (nth (heading s) 1) (drop 16 s)) (Refused 8 0 0)
+    → read_telegram s ≡ cond (header_ok s) (read_row ring_answer (nth (heading s) 1) (drop 16 s)) (Err Header)
 unfolding read_telegram
 by_row s e = rw (e, digits-digits 6 550419, value_digits 6 550419 (lit< tt))
 
 -- right bodies, wrong ones, wrong headers
 readings : (h b : Bool) (c : ℕ) (vs ws : List ℕ) → set vs 3 0 ≡ set ws 3 0
-    → AlikeButSource (cond h (cond b (Telegram c (ring_answer.make vs)) (Refused 10 c 550419)) (Refused 8 0 0))
-    (cond h (cond b (Telegram c (ring_answer.make ws)) (Refused 10 c 550419)) (Refused 8 0 0))
+    → AlikeButSource (cond h (cond b (Ok (under c (ring_answer.make vs))) (Err (Body c 550419))) (Err Header))
+    (cond h (cond b (Ok (under c (ring_answer.make ws))) (Err (Body c 550419))) (Err Header))
 readings true true c vs ws e = rw (other 0 (omega arith), other 1 (omega arith), other 5 (omega arith)) read
   where
     other : (i : ℕ) → (i ≡ 3 → ⊥) → nth vs i ≡ nth ws i

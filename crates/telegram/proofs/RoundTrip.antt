@@ -9,6 +9,7 @@ use lib.ListN.{length, length-append, length-drop, get_or, take, drop, take-appe
 use lib.Seq.{take_at, drop_at, drop-drop, length-take-le}
 use lib.Dec.{leb, ltb, eqb, lit<}
 use borrow.Author.Tests.{leb-true, le-leb, lt-ltb, eqb-true, eq-eqb}
+use Rattle.std.specs.Prelude.{Ok, Err}
 use Rattle.laws.specs.Each.{Each}
 use Rattle.laws.proofs.Lists.{tab, tab-all}
 use Rattle.laws.proofs.Tests.{both, by_test, cond-taken}
@@ -16,11 +17,12 @@ use Rattle.numerals.specs.Digits.{digits_of, all_digits, value_of}
 use Rattle.fields.specs.Fields.{Field, plain, length4, code, len, in_range as fits, body_ok, values_in, all_in, bytes_of}
 use Rattle.numerals.proofs.Kept.{length_digits, digits-digits, value_digits, digits_value}
 use Rattle.fields.proofs.Kept.{read-written, written_read, length-bytes, same_count}
-use Rattle.telegram.specs.Telegram.{Row, nth, time_notice, ring_body, ring_answer, operation_answer, time_request, base_arrival, ring_notice, answer_reply, operation_request, call, caller_notice, call_result, capture_request, capture_reply, capture_state, table, read_row, read_in, heading, header_ok, read_identified, read_telegram, row_of, values_of, size_of, headed, telegram_of, in_range}
+use Rattle.telegram.specs.Telegram.{Row, nth, time_notice, ring_body, ring_answer, operation_answer, time_request, base_arrival, ring_notice, answer_reply, operation_request, call, caller_notice, call_result, capture_request, capture_reply, capture_state, table, under, read_row, read_in, heading, header_ok, read_identified, read_telegram, row_of, values_of, size_of, headed, telegram_of, in_range}
 use Rattle.telegram.specs.Promises.{ReadsBack, WrittenForm, OneForm}
 use Rattle.telegram.specs.declared.message.Message.{Message}
 use Rattle.telegram.specs.declared.message.Message.TheVariants.{TimeNotice, RingAnswer, OperationAnswer, TimeRequest, BaseArrival, RingNotice, AnswerReply, OperationRequest, Call, CallerNotice, CallResult, CaptureRequest, CaptureReply, CaptureState}
-use Rattle.telegram.specs.declared.message.Reading.TheVariants.{Telegram, Refused}
+use Rattle.telegram.specs.declared.message.Telegram.{Telegram}
+use Rattle.telegram.specs.declared.message.ReadError.{ReadError}
 use Rattle.telegram.proofs.SizeLaws.{size-most}
 use Rattle.telegram.proofs.HeaderLaws.{header_tests, header_long}
 
@@ -123,11 +125,11 @@ reads-back c m h =
     let p = size-most m in
     let q = back c m in
     let r = read-written fs 0 0 vs a.1 in
-    let e : read_row (row_of m) c (bytes_of fs vs) ≡ Telegram c ((row_of m).make vs) = rw (r.0, r.1) in
+    let e : read_row (row_of m) c (bytes_of fs vs) ≡ Ok (under c ((row_of m).make vs)) = rw (r.0, r.1) in
     read-headed (size_of m) c (row_of m).id (bytes_of fs vs) (omega arith) (omega arith) (leb-true _ _ a.0) (six_digits m)
     ∙ q.1 (bytes_of fs vs)
     ∙ e
-    ∙ ap (Telegram c) q.0
+    ∙ ap (λ (x : Message). Ok (under c x)) q.0
 
 -- ---- from bytes to a message and back
 
@@ -173,23 +175,24 @@ record Back (c i k : ℕ) (b : List ℕ) (m : Message) : Type 0 where
   bytes_are : bytes_of (row_of m).body (values_of m) ≡ b
 
 -- what is refused is no message
-not-read : (n c i k : ℕ) (m : Message) → Refused n c i ≡ Telegram k m → ⊥
-not-read n c i k m q = let z : ◌≡◌ {A = ℕ} 0 1 = cc in omega arith
+not-read : (e : ReadError) (k : ℕ) (m : Message) → Err e ≡ Ok (under k m) → ⊥
+not-read e k m q = let z : ◌≡◌ {A = ℕ} 0 1 = cc in omega arith
 
-row_back : (r : Row) → RowLaw r → (c k : ℕ) (b : List ℕ) (m : Message) → read_row r c b ≡ Telegram k m → Back c r.id k b m
+row_back : (r : Row) → RowLaw r → (c k : ℕ) (b : List ℕ) (m : Message) → read_row r c b ≡ Ok (under k m) → Back c r.id k b m
 row_back r law c k b m e =
     let vs = values_in r.body b in
-    let t = cond-taken (body_ok r.body 0 0 b) (Telegram c (r.make vs)) _ e (not-read _ _ _ k m) in
-    let f : Telegram c (r.make vs) ≡ Telegram k m = t.1 in
-    let j : r.make vs ≡ m = cc in
+    let t = cond-taken (body_ok r.body 0 0 b) (Ok (under c (r.make vs))) _ e (not-read _ k m) in
+    let f : Ok (under c (r.make vs)) ≡ Ok (under k m) = t.1 in
+    let g : under c (r.make vs) ≡ under k m = cc in
+    let j : r.make vs ≡ m = ap (λ (x : Telegram). x.message) g in
     let w = written_read r.body 0 0 b t.0 in
     let l = law vs w.0 in
     let p : row_of m ≡ r = ap row_of (sym j) ∙ l.0 in
     let q : values_of m ≡ vs = ap values_of (sym j) ∙ l.1 in
-    record { code_is = cc; id-is = rw p; values_in_lem = rw (p, q) w.0; bytes_are = rw (p, q) w.1 }
+    record { code_is = ap (λ (x : Telegram). x.code) g; id-is = rw p; values_in_lem = rw (p, q) w.0; bytes_are = rw (p, q) w.1 }
 
-table-back : (rs : List Row) → Each RowLaw rs → (c i k : ℕ) (b : List ℕ) (m : Message) → read_in rs c i b ≡ Telegram k m → Back c i k b m
-table-back [] laws c i k b m e = absurd (not-read 9 c i k m e)
+table-back : (rs : List Row) → Each RowLaw rs → (c i k : ℕ) (b : List ℕ) (m : Message) → read_in rs c i b ≡ Ok (under k m) → Back c i k b m
+table-back [] laws c i k b m e = absurd (not-read _ k m e)
 table-back (r ∷ rs) laws c i k b m e =
     by_test (eqb i r.id)
     (λ h.
@@ -289,8 +292,8 @@ unfolding read_telegram telegram_of
 written_form s c m e =
     let n = nth (heading s) 1 in
     let i = value_of (take 6 (drop 10 s)) in
-    let t = cond-taken (header_ok s) (read_identified n s) _ e (not-read _ _ _ c m) in
-    let u = cond-taken (all_digits (take 6 (drop 10 s))) (read_in table n i (drop 16 s)) _ t.1 (not-read _ _ _ c m) in
+    let t = cond-taken (header_ok s) (read_identified n s) _ e (not-read _ c m) in
+    let u = cond-taken (all_digits (take 6 (drop 10 s))) (read_in table n i (drop 16 s)) _ t.1 (not-read _ c m) in
     let a = table-back table laws n i c (drop 16 s) m u.1 in
     let r = headed-read s t.0 u.0 in
     let k : c ≤ 1023 = rw a.code_is at r.1 in

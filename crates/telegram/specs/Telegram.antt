@@ -1,14 +1,17 @@
 -- 01, Telegrams: the table, what bytes read as, and how a message is written.
-use Rattle.std.specs.Prelude.{ℕ, ◌+◌, List, [], ◌∷◌, ◌++◌, Bool, ◌&&◌, cond, leb, eqb, length, take, drop, get_or}
+use Rattle.std.specs.Prelude.{ℕ, ◌+◌, List, [], ◌∷◌, ◌++◌, Bool, ◌&&◌, cond, leb, eqb, length, take, drop, get_or, Some, None, Result, Ok, Err}
 use Rattle.numerals.specs.Digits.{digits_of, all_digits, value_of}
 use Rattle.fields.specs.Fields.{Field, length4, code, channel, base, call_type, direction, reason, len, number, flag, year, month, day, hour, minute, second, body_ok, values_in, all_in, bytes_of, body_size}
 use Rattle.telegram.specs.declared.message.Number.{Number}
+use Rattle.telegram.specs.declared.message.Ring.{Ring}
+use Rattle.telegram.specs.declared.message.Reply.{Reply}
 use Rattle.telegram.specs.declared.message.Message.{Message}
 use Rattle.telegram.specs.declared.message.Message.TheVariants.{TimeNotice, RingAnswer, OperationAnswer, TimeRequest, BaseArrival, RingNotice, AnswerReply, OperationRequest, Call, CallerNotice, CallResult, CaptureRequest, CaptureReply, CaptureState}
-use Rattle.telegram.specs.declared.message.Reading.{Reading}
-use Rattle.telegram.specs.declared.message.Reading.TheVariants.{Telegram, Refused}
-use Rattle.telegram.specs.declared.message.Written.{Written}
-use Rattle.telegram.specs.declared.message.Written.TheVariants.{Count, OutOfRange, NoRoom}
+use Rattle.telegram.specs.declared.message.Telegram.{Telegram}
+use Rattle.telegram.specs.declared.message.ReadError.{ReadError}
+use Rattle.telegram.specs.declared.message.ReadError.TheVariants.{Header, Identifier, Body}
+use Rattle.telegram.specs.declared.message.WriteError.{WriteError}
+use Rattle.telegram.specs.declared.message.WriteError.TheVariants.{OutOfRange, NoRoom}
 
 -- ---- the table
 
@@ -37,10 +40,19 @@ time_notice = row 550411 (year ∷ month ∷ day ∷ hour ∷ minute ∷ second 
 abbrev pub ring_body : List Field
 ring_body = channel ∷ call_type ∷ len ∷ number ∷ len ∷ number ∷ []
 
+abbrev pub ring_of : List ℕ → Ring
+ring_of v = record { channel = nth v 0; kind = nth v 1; source = num (nth v 3); destination = num (nth v 5) }
+
+-- what an answer reply and a capture reply say, the same too
+abbrev pub reply_body : List Field
+reply_body = channel ∷ flag ∷ []
+
+abbrev pub reply_of : List ℕ → Reply
+reply_of v = record { channel = nth v 0; result = nth v 1 }
+
 -- "550419 ring answer: CH, type, len, source, len, destination" (02 §1, filled as document 000 has it)
 abbrev pub ring_answer : Row
-ring_answer = row 550419 ring_body
-    (λ v. RingAnswer (record { channel = nth v 0; kind = nth v 1; source = num (nth v 3); destination = num (nth v 5) }))
+ring_answer = row 550419 ring_body (λ v. RingAnswer (ring_of v))
 
 -- "550421 operation answer: system, state"
 abbrev pub operation_answer : Row
@@ -57,12 +69,11 @@ base_arrival = row 550464 (channel ∷ base ∷ call_type ∷ number ∷ flag �
 
 -- "550468 ring notice: CH, type, len, source, len, destination" (02 §1, filled as document 000 has it)
 abbrev pub ring_notice : Row
-ring_notice = row 550468 ring_body
-    (λ v. RingNotice (record { channel = nth v 0; kind = nth v 1; source = num (nth v 3); destination = num (nth v 5) }))
+ring_notice = row 550468 ring_body (λ v. RingNotice (ring_of v))
 
 -- "550469 answer reply: CH, result" (02 §1, filled as document 000 has it)
 abbrev pub answer_reply : Row
-answer_reply = row 550469 (channel ∷ flag ∷ []) (λ v. AnswerReply (record { channel = nth v 0; result = nth v 1 }))
+answer_reply = row 550469 reply_body (λ v. AnswerReply (reply_of v))
 
 -- "550471 operation request: none"
 abbrev pub operation_request : Row
@@ -90,7 +101,7 @@ capture_request = row 550600 (channel ∷ len ∷ number ∷ flag ∷ [])
 
 -- "550650 capture reply: CH, result"
 abbrev pub capture_reply : Row
-capture_reply = row 550650 (channel ∷ flag ∷ []) (λ v. CaptureReply (record { channel = nth v 0; result = nth v 1 }))
+capture_reply = row 550650 reply_body (λ v. CaptureReply (reply_of v))
 
 -- "550651 capture state: CH, len, number, state"
 abbrev pub capture_state : Row
@@ -103,6 +114,13 @@ table =
     ∷ caller_notice ∷ call_result ∷ capture_request ∷ capture_reply ∷ capture_state ∷ []
 
 -- ---- reading
+
+-- a message under an organisation code, or why bytes read as none
+abbrev pub Reading : Type 0
+Reading = Result Telegram ReadError
+
+abbrev pub under : ℕ → Message → Telegram
+under c m = record { code = c; message = m }
 
 -- the length and the organisation code that a header gives
 abbrev pub heading : List ℕ → List ℕ
@@ -119,20 +137,20 @@ header_ok s =
 
 -- 10: "body size or a field's range wrong"
 abbrev pub read_row : Row → ℕ → List ℕ → Reading
-read_row r c b = cond (body_ok r.body 0 0 b) (Telegram c (r.make (values_in r.body b))) (Refused 10 c r.id)
+read_row r c b = cond (body_ok r.body 0 0 b) (Ok (under c (r.make (values_in r.body b)))) (Err (Body c r.id))
 
 -- 9: "identifier not in the table"
 abbrev pub read_in : List Row → ℕ → ℕ → List ℕ → Reading
-read_in [] c i b = Refused 9 c i
+read_in [] c i b = Err (Identifier c (Some i))
 read_in (r ∷ rs) c i b = cond (eqb i r.id) (read_row r c b) (read_in rs c i b)
 
 abbrev pub read_identified : ℕ → List ℕ → Reading
 read_identified c s =
-    cond (all_digits (take 6 (drop 10 s))) (read_in table c (value_of (take 6 (drop 10 s))) (drop 16 s)) (Refused 9 c 0)
+    cond (all_digits (take 6 (drop 10 s))) (read_in table c (value_of (take 6 (drop 10 s))) (drop 16 s)) (Err (Identifier c None))
 
 -- what any bytes read as
 unfoldable pub read_telegram : List ℕ → Reading
-read_telegram s = cond (header_ok s) (read_identified (nth (heading s) 1) s) (Refused 8 0 0)
+read_telegram s = cond (header_ok s) (read_identified (nth (heading s) 1) s) (Err Header)
 
 -- ---- writing
 
@@ -189,8 +207,11 @@ abbrev pub sendable : ℕ → Message → Bool
 sendable c m = leb c 1023 && in_range m
 
 -- "The writer gives 10 for a value out of range, then 16": its answer at a buffer's length
+abbrev pub Written : Type 0
+Written = Result ℕ WriteError
+
 unfoldable pub write_answer : ℕ → Message → ℕ → Written
-write_answer c m n = cond (sendable c m) (cond (leb (size_of m) n) (Count (size_of m)) NoRoom) OutOfRange
+write_answer c m n = cond (sendable c m) (cond (leb (size_of m) n) (Ok (size_of m)) (Err NoRoom)) (Err OutOfRange)
 
 -- bytes at the front of a buffer: "bytes past a written telegram stay as they were"
 abbrev pub over : List ℕ → List ℕ → List ℕ
@@ -202,17 +223,21 @@ write_into c m buffer = cond (sendable c m && leb (size_of m) (length buffer)) (
 
 -- ---- 01's numbers and values for the answers
 
+abbrev pub refusal_of : ReadError → ℕ
+refusal_of Header = 8
+refusal_of (Identifier c i) = 9
+refusal_of (Body c i) = 10
+
 abbrev pub read_refusal : Reading → ℕ
-read_refusal (Telegram c m) = 0
-read_refusal (Refused n c i) = n
+read_refusal (Ok t) = 0
+read_refusal (Err e) = refusal_of e
 
 abbrev pub write_refusal : Written → ℕ
-write_refusal (Count n) = 0
-write_refusal OutOfRange = 10
-write_refusal NoRoom = 16
+write_refusal (Ok n) = 0
+write_refusal (Err OutOfRange) = 10
+write_refusal (Err NoRoom) = 16
 
 -- "Each refusal returns count 0"
 abbrev pub write_count : Written → ℕ
-write_count (Count n) = n
-write_count OutOfRange = 0
-write_count NoRoom = 0
+write_count (Ok n) = n
+write_count (Err e) = 0

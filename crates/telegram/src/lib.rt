@@ -5,11 +5,10 @@ mod lists;
 mod message;
 
 pub use lists::{
-    ANSWER_REPLY, BASE_ARRIVAL, CALL, CALL_RESULT, CALLER_NOTICE, CAPTURE_REPLY, CAPTURE_REQUEST,
-    CAPTURE_STATE, NO_FIELDS, OPERATION_ANSWER, RING, TIME_NOTICE,
+    BASE_ARRIVAL, CALL, CALL_RESULT, CALLER_NOTICE, CAPTURE_REQUEST, CAPTURE_STATE, NO_FIELDS,
+    OPERATION_ANSWER, REPLY, RING, TIME_NOTICE,
 };
 pub use message::{
-    AnswerReply, BaseArrival, Call, CallResult, CallerNotice, CaptureReply, CaptureRequest,
-    CaptureState, Message, Number, OperationAnswer, Reading, RingAnswer, RingNotice, TimeNotice,
-    Written,
+    BaseArrival, Call, CallResult, CallerNotice, CaptureRequest, CaptureState, Message, Number,
+    OperationAnswer, ReadError, Reply, Ring, Telegram, TimeNotice, WriteError,
 };

@@ -1,9 +1,9 @@
-// What telegrams say, and the answers of the reader and the writer.
+// What telegrams say, and the errors of the reader and the writer.
 ghost use Rattle.std.specs.Prelude.{◌≡◌};
-ghost use Rattle.telegram.specs.Telegram.{num};
+ghost use Rattle.telegram.specs.Telegram.{num, refusal_of};
 
 // The number of a desk or a mobile: eight digits.
-#[derive(Clone, Copy)]
+#[derive(Clone, Copy, Debug, PartialEq, Eq)]
 pub struct Number {
     pub digits: u32,
 }
@@ -32,8 +32,9 @@ pub struct TimeNotice {
     pub second: u32,
 }
 
+// A ring notice and the answer to it, which say the same.
 #[derive(Clone, Copy)]
-pub struct RingAnswer {
+pub struct Ring {
     pub channel: u32,
     pub kind: u32,
     pub source: Number,
@@ -55,16 +56,9 @@ pub struct BaseArrival {
     pub order: u32,
 }
 
+// The reply to a ring answer or to a capture request.
 #[derive(Clone, Copy)]
-pub struct RingNotice {
-    pub channel: u32,
-    pub kind: u32,
-    pub source: Number,
-    pub destination: Number,
-}
-
-#[derive(Clone, Copy)]
-pub struct AnswerReply {
+pub struct Reply {
     pub channel: u32,
     pub result: u32,
 }
@@ -108,12 +102,6 @@ pub struct CaptureRequest {
 }
 
 #[derive(Clone, Copy)]
-pub struct CaptureReply {
-    pub channel: u32,
-    pub result: u32,
-}
-
-#[derive(Clone, Copy)]
 pub struct CaptureState {
     pub channel: u32,
     pub number: Number,
@@ -124,41 +112,57 @@ pub struct CaptureState {
 #[derive(Clone, Copy)]
 pub enum Message {
     TimeNotice(TimeNotice),
-    RingAnswer(RingAnswer),
+    RingAnswer(Ring),
     OperationAnswer(OperationAnswer),
     TimeRequest,
     BaseArrival(BaseArrival),
-    RingNotice(RingNotice),
-    AnswerReply(AnswerReply),
+    RingNotice(Ring),
+    AnswerReply(Reply),
     OperationRequest,
     Call(Call),
     CallerNotice(CallerNotice),
     CallResult(CallResult),
     CaptureRequest(CaptureRequest),
-    CaptureReply(CaptureReply),
+    CaptureReply(Reply),
     CaptureState(CaptureState),
 }
 
-// What bytes read as: a message under an organisation code, or a refusal.
+// A telegram that was read: a message under an organisation code.
 #[derive(Clone, Copy)]
-pub enum Reading {
-    Telegram {
-        code: u32,
-        message: Message,
-    },
-    // Beside the refusal number what was seen before: from 9 on the code, and the identifier
-    // if it is one. What was not seen is 0.
-    Refused {
-        number: u32,
-        code: u32,
-        identifier: u32,
-    },
+pub struct Telegram {
+    pub code: u32,
+    pub message: Message,
 }
 
-// What became of a message to be written: so many bytes, or a refusal.
-#[derive(Clone, Copy)]
-pub enum Written {
-    Count(usize),
+// Why bytes read as no telegram, and what was seen before.
+#[derive(Clone, Copy, Debug, PartialEq, Eq)]
+pub enum ReadError {
+    // The header is wrong.
+    Header,
+    // The table has no such identifier, or it is not digits.
+    Identifier { code: u32, identifier: Option<u32> },
+    // The body's size, or a field's range.
+    Body { code: u32, identifier: u32 },
+}
+
+impl ReadError {
+    // 01's refusal number.
+    pub fn refusal(self) -> u8
+        ensures { result ≡ refusal_of self }
+    {
+        match self {
+            ReadError::Header => 8,
+            ReadError::Identifier { .. } => 9,
+            ReadError::Body { .. } => 10,
+        }
+    }
+}
+
+// Why a message was not written.
+#[derive(Clone, Copy, Debug, PartialEq, Eq)]
+pub enum WriteError {
+    // The code or a number cannot stand in its field.
     OutOfRange,
+    // The buffer is too short.
     NoRoom,
 }

@@ -3,18 +3,6 @@ ghost use Rattle.std.specs.Prelude.{◌≡◌, ◌++◌, ◌+◌, ◌≤◌, len
 ghost use Rattle.std.proofs.lemmas.List.Edits.{sets};
 ghost use Rattle.numerals.specs.Digits.{digits_of};
 
-// Copies the first n bytes to the front of a buffer.
-fn copy(bytes: &[u8], n: usize, buffer: &mut [u8])
-    requires { (n ≤ length bytes.now) × (n ≤ length buffer.old) }
-    ensures { buffer.new ≡ take n bytes.now ++ drop n buffer.old }
-{
-    let mut i = 0;
-    while i < n {
-        buffer[i] = bytes[i];
-        i += 1;
-    }
-}
-
 // Puts the last four digits of v into a buffer from `at` on. By hundreds it takes fewer divisions.
 fn put_four(buffer: &mut [u8], at: usize, v: u32)
     requires { at + 4 ≤ length buffer.old }
@@ -42,6 +30,6 @@ pub fn put_form(form: &[u8], n: usize, code: u32, buffer: &mut [u8])
     requires { (n ≤ length form.now) × (n ≤ length buffer.old) × (10 ≤ length buffer.old) }
     ensures { buffer.new ≡ sets (take n form.now ++ drop n buffer.old) 6 (digits_of 4 code) }
 {
-    copy(form, n, buffer);
+    buffer[..n].copy_from_slice(&form[..n]);
     put_four(buffer, 6, code);
 }

@@ -1,6 +1,6 @@
 -- Bytes put one behind the other: digits over the width, fields over the list of fields, and a telegram.
 -- Assumes nothing.
-use Prim.Native.Nat.{ℕ, zero, suc, ◌+◌, ◌/◌, ◌≤◌, ◌<◌}
+use Prim.Native.Nat.{ℕ, zero, suc, ◌+◌, ◌/◌, ◌%◌, ◌≤◌, ◌<◌}
 use mathlib.Core.List.{List, [], ◌∷◌, ◌++◌}
 use mathlib.Core.Path.{◌≡◌, refl, sym, ap, ◌∙◌}
 use native.Mathlib.Nat.{zero-add}
@@ -19,6 +19,24 @@ use Rattle.telegram.proofs.Kept.{size-most, length-telegram}
 use Rattle.telegram_forms.specs.Forms.{padded}
 use Rattle.telegram_forms.specs.Promises.{PutDigitByDigit, PutInTwo, PutCaller, PutHolder, PutRung, PutCalled, Padded46, FormPut, FormOver}
 
+-- ---- stores in another order
+
+module _ {A : Type 0} where
+  -- a store before a run of stores
+  set_before : (l : List A) (i j : ℕ) (a : A) (xs : List A) → i < j → set (sets l j xs) i a ≡ sets (set l i a) j xs
+  set_before l i j a [] h = refl
+  set_before l i j a (x ∷ xs) h =
+      set_before (set l j x) i (suc j) a xs (omega arith) ∙ ap (λ (r : List A). sets r (suc j) xs) (set_comm l j i x a (λ e. omega (arith, e)))
+
+  -- the first stores of a run, stored again
+  sets_again : (l : List A) (i : ℕ) (xs ys zs : List A) → length xs ≡ length ys → sets (sets l i (xs ++ zs)) i ys ≡ sets l i (ys ++ zs)
+  sets_again l i [] [] zs e = refl
+  sets_again l i [] (y ∷ ys) zs e = absurd (omega (arith, e))
+  sets_again l i (x ∷ xs) [] zs e = absurd (omega (arith, e))
+  sets_again l i (x ∷ xs) (y ∷ ys) zs e =
+      ap (λ (r : List A). sets r (suc i) ys) (set_before (set l i x) i (suc i) y (xs ++ zs) (omega arith) ∙ ap (λ (r : List A). sets r (suc i) (xs ++ zs)) (set-set l i x y))
+      ∙ sets_again (set l i y) (suc i) xs ys zs (omega (arith, e))
+
 -- ---- digits
 
 pub put_digits : PutDigitByDigit
@@ -28,6 +46,18 @@ put_digits (suc (suc w)) t at v = rw (put_digits (suc w) t at (v / 10), digits_s
 
 pub put_both : PutInTwo
 put_both a b t at v = rw (digits-split a b v, sets_append, length_digits)
+
+-- a number without its last digits, and one digit less
+pub shifted-out : (n v : ℕ) → shifted n (v / 10) ≡ shifted n v / 10
+shifted-out zero v = refl
+shifted-out (suc n) v = shifted-out n (v / 10)
+
+-- one digit more, before those that are put
+pub put_before : (n : ℕ) (t : List ℕ) (at v : ℕ) → set (sets t (suc at) (digits_of n v)) at (48 + shifted n v % 10) ≡ sets t at (digits_of (suc n) v)
+put_before n t at v =
+    let one-more : suc n ≡ 1 + n = omega arith in
+    set_before t at (suc at) (48 + shifted n v % 10) (digits_of n v) (omega arith)
+    ∙ rw (one-more, digits-split 1 n v, digits_suc, digits-none) refl
 
 -- ---- fields
 
@@ -53,12 +83,11 @@ headed-fields : (z : List ℕ) (n c i : ℕ) (fs : List Field) (vs : List ℕ)
 unfolding bytes_of
 headed-fields z n c i fs vs = put_fields (plain 4 ∷ plain 4 ∷ plain 6 ∷ fs) (n ∷ c ∷ i ∷ vs) (set (set z 0 68) 1 86) 2
 
--- a header, as the code puts it: the identifier in two halves
+-- a header alone
 pub put_header : (z : List ℕ) (n c i : ℕ)
-    → sets (sets (sets (sets (set (set z 0 68) 1 86) 2 (digits_of 4 n)) 6 (digits_of 4 c)) 10 (digits_of 3 (shifted 3 i))) 13 (digits_of 3 i)
-    ≡ sets z 0 (headed n c i [])
+    → sets (sets (sets (set (set z 0 68) 1 86) 2 (digits_of 4 n)) 6 (digits_of 4 c)) 10 (digits_of 6 i) ≡ sets z 0 (headed n c i [])
 unfolding bytes_of
-put_header z n c i = put_both 3 3 _ 10 i ∙ headed-fields z n c i [] []
+put_header z n c i = headed-fields z n c i [] []
 
 -- an array into which a message is put: its header, and then its fields
 pub put_form : (m : Message)
@@ -68,28 +97,15 @@ put_form m =
     let start = headed-fields (replicate 46 0) (size_of m) 0 (row_of m).id in
     rw (← start [] [], start) refl
 
--- the same, where the body's fields are put at once
-pub put_body : (m : Message)
-    → sets (padded (headed (size_of m) 0 (row_of m).id [])) 16 (bytes_of (row_of m).body (values_of m)) ≡ padded (telegram_of 0 m)
-put_body m = sym (put_fields (row_of m).body (values_of m) _ 16) ∙ put_form m
+-- The same two from right to left: with these two the check finds each form alone.
+pub body_by_fields : (fs : List Field) (vs t : List ℕ) (at : ℕ) → sets t at (bytes_of fs vs) ≡ fieldwise t at fs vs
+body_by_fields fs vs t at = sym (put_fields fs vs t at)
+
+pub form_by_fields : (m : Message)
+    → padded (telegram_of 0 m) ≡ fieldwise (padded (headed (size_of m) 0 (row_of m).id [])) 16 (row_of m).body (values_of m)
+form_by_fields m = sym (put_form m)
 
 -- ---- other numbers put into a telegram
-
-module _ {A : Type 0} where
-  -- a store before a run of stores
-  set_before : (l : List A) (i j : ℕ) (a : A) (xs : List A) → i < j → set (sets l j xs) i a ≡ sets (set l i a) j xs
-  set_before l i j a [] h = refl
-  set_before l i j a (x ∷ xs) h =
-      set_before (set l j x) i (suc j) a xs (omega arith) ∙ ap (λ (r : List A). sets r (suc j) xs) (set_comm l j i x a (λ e. omega (arith, e)))
-
-  -- the first stores of a run, stored again
-  sets_again : (l : List A) (i : ℕ) (xs ys zs : List A) → length xs ≡ length ys → sets (sets l i (xs ++ zs)) i ys ≡ sets l i (ys ++ zs)
-  sets_again l i [] [] zs e = refl
-  sets_again l i [] (y ∷ ys) zs e = absurd (omega (arith, e))
-  sets_again l i (x ∷ xs) [] zs e = absurd (omega (arith, e))
-  sets_again l i (x ∷ xs) (y ∷ ys) zs e =
-      ap (λ (r : List A). sets r (suc i) ys) (set_before (set l i x) i (suc i) y (xs ++ zs) (omega arith) ∙ ap (λ (r : List A). sets r (suc i) (xs ++ zs)) (set-set l i x y))
-      ∙ sets_again (set l i y) (suc i) xs ys zs (omega (arith, e))
 
 -- the place of the i-th field, where the first is at `at`, and its width
 abbrev pub place_of : ℕ → ℕ → List Field → ℕ

@@ -8,7 +8,7 @@ use Rattle.telegram.specs.Telegram.{size_of, telegram_of, over}
 use Rattle.telegram.specs.declared.message.Number.{Number}
 use Rattle.telegram.specs.declared.message.CallerNotice.{CallerNotice}
 use Rattle.telegram.specs.declared.message.CaptureState.{CaptureState}
-use Rattle.telegram.specs.declared.message.RingNotice.{RingNotice}
+use Rattle.telegram.specs.declared.message.Ring.{Ring as RingNotice}
 use Rattle.telegram.specs.declared.message.CallResult.{CallResult}
 use Rattle.telegram.specs.declared.message.Message.{Message}
 use Rattle.telegram.specs.declared.message.Message.TheVariants.{RingNotice as Rung, CallerNotice as Notice, CallResult as Result, CaptureState as State}

@@ -12,46 +12,17 @@ fn digit(v: u32) -> u8
     48 + (v % 10) as u8
 }
 
-// Each of these puts the digits of v, at the width that its name says, into a telegram from `at` on. The longest
-// telegram has 46 bytes.
-pub fn one(mut t: [u8; 46], at: usize, v: u32) -> [u8; 46]
-    requires { at + 1 ≤ 46 }
-    ensures { result ≡ sets t at (digits_of 1 v) }
+// Puts the last W digits of v into a telegram from `at` on, the last one first. The longest telegram has 46 bytes.
+pub fn digits<const W: usize>(mut t: [u8; 46], at: usize, v: u32) -> [u8; 46]
+    requires { at + W ≤ 46 }
+    ensures { result ≡ sets t at (digits_of W v) }
 {
-    t[at] = digit(v);
+    let mut rest = v;
+    for k in (0..W).rev() {
+        t[at + k] = digit(rest);
+        rest /= 10;
+    }
     t
-}
-
-pub fn two(t: [u8; 46], at: usize, v: u32) -> [u8; 46]
-    requires { at + 2 ≤ 46 }
-    ensures { result ≡ sets t at (digits_of 2 v) }
-{
-    let high = one(t, at, v / 10);
-    one(high, at + 1, v)
-}
-
-pub fn three(t: [u8; 46], at: usize, v: u32) -> [u8; 46]
-    requires { at + 3 ≤ 46 }
-    ensures { result ≡ sets t at (digits_of 3 v) }
-{
-    let high = two(t, at, v / 10);
-    one(high, at + 2, v)
-}
-
-pub fn four(t: [u8; 46], at: usize, v: u32) -> [u8; 46]
-    requires { at + 4 ≤ 46 }
-    ensures { result ≡ sets t at (digits_of 4 v) }
-{
-    let high = two(t, at, v / 10 / 10);
-    two(high, at + 2, v)
-}
-
-pub fn eight(t: [u8; 46], at: usize, v: u32) -> [u8; 46]
-    requires { at + 8 ≤ 46 }
-    ensures { result ≡ sets t at (digits_of 8 v) }
-{
-    let high = four(t, at, v / 10 / 10 / 10 / 10);
-    four(high, at + 4, v)
 }
 
 // "DV", the length of the whole telegram, organisation code 0 and the identifier.
@@ -61,8 +32,7 @@ pub fn header(size: u32, identifier: u32) -> [u8; 46]
     let mut t = [0u8; 46];
     t[0] = b'D';
     t[1] = b'V';
-    let t = four(t, 2, size);
-    let t = four(t, 6, 0);
-    let t = three(t, 10, identifier / 10 / 10 / 10);
-    three(t, 13, identifier)
+    let t = digits::<4>(t, 2, size);
+    let t = digits::<4>(t, 6, 0);
+    digits::<6>(t, 10, identifier)
 }

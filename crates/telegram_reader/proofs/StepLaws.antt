@@ -1,74 +1,80 @@
--- The reader's steps together are `read_in`, and what they are where no row has the identifier.
+-- The reader's steps together are `read_in`.
 -- Assumes nothing.
 use Prim.Native.Nat.{ℕ, ◌≤◌}
-use mathlib.Core.List.{List, [], ◌∷◌}
-use mathlib.Core.Bool.{false, cond}
-use mathlib.Core.Path.{◌≡◌, refl, sym, ap}
+use mathlib.Core.List.{List, [], ◌∷◌, map}
+use mathlib.Core.Path.{◌≡◌, refl, sym, ap, ◌∙◌}
 use lib.Dec.{eqb, lit≤}
 use lib.ListN.{length, get_or}
-use borrow.Author.Tests.{eqb-true, le-leb, ne_eqb}
-use Rattle.fields.specs.Fields.{Field, body_ok, values_in}
-use Rattle.fields.specs.Held.{as_numbers}
-use Rattle.fields.specs.Held.{padded, no_fields}
-use Rattle.laws.specs.Each.{Each}
+use borrow.Author.Tests.{eqb-true}
+use Rattle.std.specs.Prelude.{Some, None, Ok, Err}
+use Rattle.std.proofs.lemmas.Option.{none-some, same_Some}
 use Rattle.laws.proofs.Lists.{tab, tab-all}
 use Rattle.laws.proofs.Tests.{by_test}
-use Rattle.telegram.specs.Telegram.{Row, table, read_in}
-use Rattle.telegram_reader.specs.Steps.{known_in, body_in, message_in}
-use Rattle.telegram.specs.declared.message.Message.TheVariants.{TimeRequest}
-use Rattle.telegram.specs.declared.message.Reading.{Reading}
-use Rattle.telegram.specs.declared.message.Reading.TheVariants.{Telegram, Refused}
+use Rattle.fields.specs.Fields.{Field, values_in}
+use Rattle.fields.specs.Held.{as_numbers, padded, fields_in}
+use Rattle.fields.proofs.Kept.{fields-found, fields-none}
+use Rattle.telegram.specs.Telegram.{Row, under, table, read_row, read_in}
+use Rattle.telegram.specs.declared.message.ReadError.TheVariants.{Identifier as Unknown, Body}
+use Rattle.telegram_reader.specs.Steps.{identifiers, row_for, known_in}
+use Rattle.telegram_reader.specs.declared.reader.Identifier.{Identifier}
+use Rattle.telegram_reader.specs.declared.reader.Identifier.TheVariants.{TimeNotice, RingAnswer, OperationAnswer, TimeRequest, BaseArrival, RingNotice, AnswerReply, OperationRequest, Call, CallerNotice, CallResult, CaptureRequest, CaptureReply, CaptureState}
+
+-- ---- the row of an identifier
+
+unlisted : (ks : List Identifier) (c i : ℕ) (b : List ℕ) → known_in ks i ≡ None → read_in (map row_for ks) c i b ≡ Err (Unknown c (Some i))
+unlisted [] c i b e = refl
+unlisted (k ∷ ks) c i b e =
+    by_test (eqb i (row_for k).id)
+    (λ h. absurd (none-some k (sym (rw h at e))))
+    (λ h. rw h (unlisted ks c i b (rw h at e)))
+
+listed : (ks : List Identifier) (c i : ℕ) (b : List ℕ) (k : Identifier) → known_in ks i ≡ Some k
+    → (i ≡ (row_for k).id) × (read_in (map row_for ks) c i b ≡ read_row (row_for k) c b)
+listed [] c i b k e = absurd (none-some k e)
+listed (j ∷ ks) c i b k e =
+    by_test (eqb i (row_for j).id)
+    (λ h.
+    let q : j ≡ k = same_Some j k (rw h at e) in
+    (eqb-true i (row_for j).id h ∙ ap (λ (x : Identifier). (row_for x).id) q, rw h (ap (λ (x : Identifier). read_row (row_for x) c b) q)))
+    (λ h. let r = listed ks c i b k (rw h at e) in (r.0, rw h r.1))
 
 -- A row's fields fit the array of eleven numbers, and the numbers behind them change nothing.
 record Fits (r : Row) : Type 0 where
   few : length r.body ≤ 11
   same : (b : List ℕ) → r.make (padded (values_in r.body b)) ≡ r.make (values_in r.body b)
 
--- the steps, put together
-abbrev pub stepped : List Row → ℕ → ℕ → List ℕ → Reading
-stepped rs c i b =
-    cond (known_in rs i) (cond (body_in rs i b).ok (Telegram c (message_in rs i (body_in rs i b).values)) (Refused 10 c i)) (Refused 9 c i)
-
-steps_are : (rs : List Row) → Each Fits rs → (c i : ℕ) (b : List ℕ) → read_in rs c i b ≡ stepped rs c i b
-steps_are [] fit c i b = refl
-steps_are (r ∷ rs) fit c i b =
-    by_test (eqb i r.id)
-    (λ h.
-    let few = le-leb (length r.body) 11 fit.0.few in
-    by_test (body_ok r.body 0 0 b)
-    (λ k. simp (h, k, few, fit.0.same b))
-    (λ k. simp (h, k, few) (ap (Refused 10 c) (sym (eqb-true i r.id h)))))
-    (λ h. simp h (steps_are rs fit.1 c i b))
-
-fits : Each Fits table
+fits : (k : Identifier) → Fits (row_for k)
 unfolding values_in
-fits =
-    (record { few = lit≤ tt; same = λ b. refl }, (record { few = lit≤ tt; same = λ b. refl }, (record { few = lit≤ tt; same = λ b. refl }, (record { few = lit≤ tt; same = λ b. refl }, (record { few = lit≤ tt; same = λ b. refl }, (record { few = lit≤ tt; same = λ b. refl }, (record { few = lit≤ tt; same = λ b. refl }, (record { few = lit≤ tt; same = λ b. refl }, (record { few = lit≤ tt; same = λ b. refl }, (record { few = lit≤ tt; same = λ b. refl }, (record { few = lit≤ tt; same = λ b. refl }, (record { few = lit≤ tt; same = λ b. refl }, (record { few = lit≤ tt; same = λ b. refl }, (record { few = lit≤ tt; same = λ b. refl }, tt))))))))))))))
+fits TimeNotice = record { few = lit≤ tt; same = λ b. refl }
+fits RingAnswer = record { few = lit≤ tt; same = λ b. refl }
+fits OperationAnswer = record { few = lit≤ tt; same = λ b. refl }
+fits TimeRequest = record { few = lit≤ tt; same = λ b. refl }
+fits BaseArrival = record { few = lit≤ tt; same = λ b. refl }
+fits RingNotice = record { few = lit≤ tt; same = λ b. refl }
+fits AnswerReply = record { few = lit≤ tt; same = λ b. refl }
+fits OperationRequest = record { few = lit≤ tt; same = λ b. refl }
+fits Call = record { few = lit≤ tt; same = λ b. refl }
+fits CallerNotice = record { few = lit≤ tt; same = λ b. refl }
+fits CallResult = record { few = lit≤ tt; same = λ b. refl }
+fits CaptureRequest = record { few = lit≤ tt; same = λ b. refl }
+fits CaptureReply = record { few = lit≤ tt; same = λ b. refl }
+fits CaptureState = record { few = lit≤ tt; same = λ b. refl }
 
-pub read_steps : (c i : ℕ) (b : List ℕ) → read_in table c i b ≡ stepped table c i b
-read_steps c i b = steps_are table fits c i b
+-- ---- the steps, put together
 
--- ---- an identifier that no row has
+pub read_unknown : (c i : ℕ) (b : List ℕ) → known_in identifiers i ≡ None → read_in table c i b ≡ Err (Unknown c (Some i))
+read_unknown c i b e = unlisted identifiers c i b e
 
--- what a match on the identifiers of the rows leaves to its last arm: D, and that none of them is i
-abbrev pub Apart : List Row → ℕ → Type 0 → Type 0
-Apart [] i D = D
-Apart (r ∷ rs) i D = Apart rs i (D × (i ≡ r.id → ⊥))
+module _ (c i : ℕ) (b : List ℕ) (k : Identifier) (e : known_in identifiers i ≡ Some k) where
+  pub read_none : fields_in (row_for k).body b ≡ None → read_in table c i b ≡ Err (Body c i)
+  read_none q =
+      let l = listed identifiers c i b k e in
+      l.1 ∙ rw (fields-none (row_for k).body b q (fits k).few) (ap (λ (x : ℕ). Err (Body c x)) (sym l.0))
 
-pub record Unlisted (rs : List Row) (i : ℕ) : Type 0 where
-  pub known : known_in rs i ≡ false
-  pub body : (b : List ℕ) → body_in rs i b ≡ no_fields
-  pub message : (v : List ℕ) → message_in rs i v ≡ TimeRequest
-
-apart_unlisted : (rs : List Row) (i : ℕ) (D : Type 0) → Apart rs i D → D × Unlisted rs i
-apart_unlisted [] i D a = (a, record { known = refl; body = λ b. refl; message = λ v. refl })
-apart_unlisted (r ∷ rs) i D a =
-    let u = apart_unlisted rs i (D × (i ≡ r.id → ⊥)) a in
-    let e = ne_eqb i r.id u.0.1 in
-    (u.0.0, record { known = simp (e, u.1.known); body = λ b. simp (e, u.1.body b); message = λ v. simp (e, u.1.message v) })
-
-pub unlisted : (i : ℕ) → Apart table i (Unit {0}) → Unlisted table i
-unlisted i a = (apart_unlisted table i (Unit {0}) a).1
+  pub read_some : (v : List ℕ) → fields_in (row_for k).body b ≡ Some v → read_in table c i b ≡ Ok (under c ((row_for k).make v))
+  read_some v q =
+      let f = fields-found (row_for k).body b v q in
+      (listed identifiers c i b k e).1 ∙ rw (f.0, f.1, (fits k).same b)
 
 -- ---- bytes one by one
 

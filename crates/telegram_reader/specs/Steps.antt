@@ -1,28 +1,36 @@
--- The reader's steps: what the header says; then by the table: is the identifier known, what are the body's numbers, which
--- message do they make. They serve the contracts of the reader's inner functions. `proofs/StepLaws.antt` shows that those by
--- the table together are `read_in`, and the contract of `read` cites `read_telegram` alone.
-use Rattle.std.specs.Prelude.{ℕ, List, [], ◌∷◌, Bool, false, ◌||◌, cond, eqb}
-use Rattle.fields.specs.Held.{no_fields, fields_in}
-use Rattle.fields.specs.declared.lists.Fields.{Fields}
-use Rattle.telegram.specs.Telegram.{Row, nth, heading, header_ok}
-use Rattle.telegram.specs.declared.message.Message.{Message}
-use Rattle.telegram.specs.declared.message.Message.TheVariants.{TimeRequest}
-use Rattle.telegram_reader.specs.declared.reader.Header.{Header}
-use Rattle.telegram_reader.specs.declared.reader.Header.TheVariants.{Code, Bad}
+-- The reader's steps: what the header says; then whether the table has the identifier, and its row. They serve the contracts of the
+-- reader's inner functions. `proofs/StepLaws.antt` shows that those by the table together are `read_in`, and the contract of `read`
+-- cites `read_telegram` alone.
+use Rattle.std.specs.Prelude.{ℕ, List, [], ◌∷◌, cond, eqb, Option, Some, None}
+use Rattle.telegram.specs.Telegram.{Row, time_notice, ring_answer, operation_answer, time_request, base_arrival, ring_notice, answer_reply, operation_request, call, caller_notice, call_result, capture_request, capture_reply, capture_state, nth, heading, header_ok}
+use Rattle.telegram_reader.specs.declared.reader.Identifier.{Identifier}
+use Rattle.telegram_reader.specs.declared.reader.Identifier.TheVariants.{TimeNotice, RingAnswer, OperationAnswer, TimeRequest, BaseArrival, RingNotice, AnswerReply, OperationRequest, Call, CallerNotice, CallResult, CaptureRequest, CaptureReply, CaptureState}
 
 -- the organisation code, if all is right with the header
-abbrev pub header_of : List ℕ → Header
-header_of s = cond (header_ok s) (Code (nth (heading s) 1)) Bad
+abbrev pub header_of : List ℕ → Option ℕ
+header_of s = cond (header_ok s) (Some (nth (heading s) 1)) None
 
-abbrev pub known_in : List Row → ℕ → Bool
-known_in [] i = false
-known_in (r ∷ rs) i = eqb i r.id || known_in rs i
+-- the identifiers, in the order of the table, and the row of each
+abbrev pub identifiers : List Identifier
+identifiers =
+    TimeNotice ∷ RingAnswer ∷ OperationAnswer ∷ TimeRequest ∷ BaseArrival ∷ RingNotice ∷ AnswerReply ∷ OperationRequest ∷ Call ∷ CallerNotice ∷ CallResult ∷ CaptureRequest ∷ CaptureReply ∷ CaptureState ∷ []
 
-abbrev pub body_in : List Row → ℕ → List ℕ → Fields
-body_in [] i b = no_fields
-body_in (r ∷ rs) i b = cond (eqb i r.id) (fields_in r.body b) (body_in rs i b)
+abbrev pub row_for : Identifier → Row
+row_for TimeNotice = time_notice
+row_for RingAnswer = ring_answer
+row_for OperationAnswer = operation_answer
+row_for TimeRequest = time_request
+row_for BaseArrival = base_arrival
+row_for RingNotice = ring_notice
+row_for AnswerReply = answer_reply
+row_for OperationRequest = operation_request
+row_for Call = call
+row_for CallerNotice = caller_notice
+row_for CallResult = call_result
+row_for CaptureRequest = capture_request
+row_for CaptureReply = capture_reply
+row_for CaptureState = capture_state
 
--- for an identifier that is not in the table any message will do: it is not asked for
-abbrev pub message_in : List Row → ℕ → List ℕ → Message
-message_in [] i v = TimeRequest
-message_in (r ∷ rs) i v = cond (eqb i r.id) (r.make v) (message_in rs i v)
+abbrev pub known_in : List Identifier → ℕ → Option Identifier
+known_in [] i = None
+known_in (k ∷ ks) i = cond (eqb i (row_for k).id) (Some k) (known_in ks i)

@@ -3,14 +3,13 @@ ghost use Rattle.std.specs.Prelude.{[], ◌∷◌, ◌≡◌};
 ghost use Rattle.numerals.specs.Digits.{digits_in};
 ghost use Rattle.fields.specs.Fields.{length4, code};
 ghost use Rattle.fields.specs.Held.{fields_in};
-ghost use Rattle.telegram.specs.Telegram.{time_notice, ring_answer, operation_answer, base_arrival, ring_notice, answer_reply, call, caller_notice, call_result, capture_request, capture_reply, capture_state, table, read_in, read_telegram};
-ghost use Rattle.telegram_reader.specs.Steps.{known_in, body_in, message_in, header_of};
+ghost use Rattle.telegram.specs.Telegram.{time_notice, ring_of, operation_answer, base_arrival, reply_of, call, caller_notice, call_result, capture_request, capture_state, table, read_in, read_telegram};
+ghost use Rattle.telegram_reader.specs.Steps.{identifiers, known_in, row_for, header_of};
 
-use fields::Fields;
-use numerals::Digits;
+use fields::Field;
 use telegram::{
-    AnswerReply, BaseArrival, Call, CallResult, CallerNotice, CaptureReply, CaptureRequest,
-    CaptureState, Message, Number, OperationAnswer, Reading, RingAnswer, RingNotice, TimeNotice,
+    BaseArrival, Call, CallResult, CallerNotice, CaptureRequest, CaptureState, Message, Number,
+    OperationAnswer, ReadError, Reply, Ring, Telegram, TimeNotice,
 };
 
 fn time_notice(v: [u32; 11]) -> TimeNotice
@@ -26,16 +25,14 @@ fn time_notice(v: [u32; 11]) -> TimeNotice
     }
 }
 
-fn ring_answer(v: [u32; 11]) -> RingAnswer
-    ensures { Message.RingAnswer result ≡ ring_answer.make v }
+fn ring(v: [u32; 11]) -> Ring
+    ensures { result ≡ ring_of v }
 {
-    let source = Number::new(v[3]);
-    let destination = Number::new(v[5]);
-    RingAnswer {
+    Ring {
         channel: v[0],
         kind: v[1],
-        source,
-        destination,
+        source: Number::new(v[3]),
+        destination: Number::new(v[5]),
     }
 }
 
@@ -51,33 +48,19 @@ fn operation_answer(v: [u32; 11]) -> OperationAnswer
 fn base_arrival(v: [u32; 11]) -> BaseArrival
     ensures { Message.BaseArrival result ≡ base_arrival.make v }
 {
-    let number = Number::new(v[3]);
     BaseArrival {
         channel: v[0],
         base: v[1],
         kind: v[2],
-        number,
+        number: Number::new(v[3]),
         order: v[4],
     }
 }
 
-fn ring_notice(v: [u32; 11]) -> RingNotice
-    ensures { Message.RingNotice result ≡ ring_notice.make v }
+fn reply(v: [u32; 11]) -> Reply
+    ensures { result ≡ reply_of v }
 {
-    let source = Number::new(v[3]);
-    let destination = Number::new(v[5]);
-    RingNotice {
-        channel: v[0],
-        kind: v[1],
-        source,
-        destination,
-    }
-}
-
-fn answer_reply(v: [u32; 11]) -> AnswerReply
-    ensures { Message.AnswerReply result ≡ answer_reply.make v }
-{
-    AnswerReply {
+    Reply {
         channel: v[0],
         result: v[1],
     }
@@ -86,8 +69,6 @@ fn answer_reply(v: [u32; 11]) -> AnswerReply
 fn call(v: [u32; 11]) -> Call
     ensures { Message.Call result ≡ call.make v }
 {
-    let source = Number::new(v[8]);
-    let destination = Number::new(v[10]);
     Call {
         channel: v[0],
         base: v[1],
@@ -96,21 +77,20 @@ fn call(v: [u32; 11]) -> Call
         direction: v[4],
         start: v[5],
         reason: v[6],
-        source,
-        destination,
+        source: Number::new(v[8]),
+        destination: Number::new(v[10]),
     }
 }
 
 fn caller_notice(v: [u32; 11]) -> CallerNotice
     ensures { Message.CallerNotice result ≡ caller_notice.make v }
 {
-    let number = Number::new(v[4]);
     CallerNotice {
         channel: v[0],
         base: v[1],
         kind: v[2],
         direction: v[3],
-        number,
+        number: Number::new(v[4]),
         order: v[5],
     }
 }
@@ -118,249 +98,221 @@ fn caller_notice(v: [u32; 11]) -> CallerNotice
 fn call_result(v: [u32; 11]) -> CallResult
     ensures { Message.CallResult result ≡ call_result.make v }
 {
-    let destination = Number::new(v[4]);
     CallResult {
         channel: v[0],
         kind: v[1],
         result: v[2],
-        destination,
+        destination: Number::new(v[4]),
     }
 }
 
 fn capture_request(v: [u32; 11]) -> CaptureRequest
     ensures { Message.CaptureRequest result ≡ capture_request.make v }
 {
-    let number = Number::new(v[2]);
     CaptureRequest {
         channel: v[0],
-        number,
+        number: Number::new(v[2]),
         order: v[3],
-    }
-}
-
-fn capture_reply(v: [u32; 11]) -> CaptureReply
-    ensures { Message.CaptureReply result ≡ capture_reply.make v }
-{
-    CaptureReply {
-        channel: v[0],
-        result: v[1],
     }
 }
 
 fn capture_state(v: [u32; 11]) -> CaptureState
     ensures { Message.CaptureState result ≡ capture_state.make v }
 {
-    let number = Number::new(v[2]);
     CaptureState {
         channel: v[0],
-        number,
+        number: Number::new(v[2]),
         state: v[3],
     }
 }
 
-// Whether the table has an identifier.
-fn is_known(identifier: u32) -> bool
-    ensures { result ≡ known_in table identifier }
-{
-    match identifier {
-        550411 => true,
-        550419 => true,
-        550421 => true,
-        550461 => true,
-        550464 => true,
-        550468 => true,
-        550469 => true,
-        550471 => true,
-        550473 => true,
-        550477 => true,
-        550480 => true,
-        550600 => true,
-        550650 => true,
-        550651 => true,
-        _ => false,
-    }
-}
-
 // The numbers of a capture request, in a straight line: by its list of fields they take some four times the instructions.
-fn read_capture_request(b: &[u8]) -> Fields
+fn read_capture_request(b: &[u8]) -> Option<[u32; 11]>
     ensures { result ≡ fields_in capture_request.body b.now }
 {
     if b.len() != 13 {
-        return fields::no_fields();
+        return None;
     }
     let channel = numerals::four(b'0', b[0], b[1], b[2]);
     let len = numerals::four(b'0', b'0', b'0', b[3]);
     let number = numerals::eight(b[4], b[5], b[6], b[7], b[8], b[9], b[10], b[11]);
     let order = numerals::four(b'0', b'0', b'0', b[12]);
-    if fields::in_range(fields::CHANNEL, 0, 0, channel)
-        & fields::in_range(fields::LEN, 0, channel, len)
-        & fields::in_range(fields::NUMBER, channel, len, number)
-        & fields::in_range(fields::FLAG, len, number, order)
+    if Field::Channel.in_range(0, 0, channel)
+        & Field::Len.in_range(0, channel, len)
+        & Field::Number.in_range(channel, len, number)
+        & Field::Flag.in_range(len, number, order)
     {
-        Fields {
-            ok: true,
-            values: [channel, len, number, order, 0, 0, 0, 0, 0, 0, 0],
-        }
+        Some([channel, len, number, order, 0, 0, 0, 0, 0, 0, 0])
     } else {
-        fields::no_fields()
+        None
     }
 }
 
-// The numbers of the fields that belong to an identifier.
-fn read_body(identifier: u32, body: &[u8]) -> Fields
-    ensures { result ≡ body_in table identifier body.now }
-{
-    match identifier {
-        550411 => fields::read_fields(body, &telegram::TIME_NOTICE),
-        550419 => fields::read_fields(body, &telegram::RING),
-        550421 => fields::read_fields(body, &telegram::OPERATION_ANSWER),
-        550461 => fields::read_fields(body, &telegram::NO_FIELDS),
-        550464 => fields::read_fields(body, &telegram::BASE_ARRIVAL),
-        550468 => fields::read_fields(body, &telegram::RING),
-        550469 => fields::read_fields(body, &telegram::ANSWER_REPLY),
-        550471 => fields::read_fields(body, &telegram::NO_FIELDS),
-        550473 => fields::read_fields(body, &telegram::CALL),
-        550477 => fields::read_fields(body, &telegram::CALLER_NOTICE),
-        550480 => fields::read_fields(body, &telegram::CALL_RESULT),
-        550600 => read_capture_request(body),
-        550650 => fields::read_fields(body, &telegram::CAPTURE_REPLY),
-        550651 => fields::read_fields(body, &telegram::CAPTURE_STATE),
-        _ => fields::no_fields(),
-    }
+// The identifiers of the table.
+#[derive(Clone, Copy)]
+enum Identifier {
+    TimeNotice,
+    RingAnswer,
+    OperationAnswer,
+    TimeRequest,
+    BaseArrival,
+    RingNotice,
+    AnswerReply,
+    OperationRequest,
+    Call,
+    CallerNotice,
+    CallResult,
+    CaptureRequest,
+    CaptureReply,
+    CaptureState,
 }
 
-// The message that these numbers make.
-fn message_of(identifier: u32, v: [u32; 11]) -> Message
-    ensures { result ≡ message_in table identifier v }
-{
-    match identifier {
-        550411 => Message::TimeNotice(time_notice(v)),
-        550419 => Message::RingAnswer(ring_answer(v)),
-        550421 => Message::OperationAnswer(operation_answer(v)),
-        550461 => Message::TimeRequest,
-        550464 => Message::BaseArrival(base_arrival(v)),
-        550468 => Message::RingNotice(ring_notice(v)),
-        550469 => Message::AnswerReply(answer_reply(v)),
-        550471 => Message::OperationRequest,
-        550473 => Message::Call(call(v)),
-        550477 => Message::CallerNotice(caller_notice(v)),
-        550480 => Message::CallResult(call_result(v)),
-        550600 => Message::CaptureRequest(capture_request(v)),
-        550650 => Message::CaptureReply(capture_reply(v)),
-        550651 => Message::CaptureState(capture_state(v)),
-        _ => Message::TimeRequest,
+impl Identifier {
+    fn of(number: u32) -> Option<Identifier>
+        ensures { result ≡ known_in identifiers number }
+    {
+        match number {
+            550411 => Some(Identifier::TimeNotice),
+            550419 => Some(Identifier::RingAnswer),
+            550421 => Some(Identifier::OperationAnswer),
+            550461 => Some(Identifier::TimeRequest),
+            550464 => Some(Identifier::BaseArrival),
+            550468 => Some(Identifier::RingNotice),
+            550469 => Some(Identifier::AnswerReply),
+            550471 => Some(Identifier::OperationRequest),
+            550473 => Some(Identifier::Call),
+            550477 => Some(Identifier::CallerNotice),
+            550480 => Some(Identifier::CallResult),
+            550600 => Some(Identifier::CaptureRequest),
+            550650 => Some(Identifier::CaptureReply),
+            550651 => Some(Identifier::CaptureState),
+            _ => None,
+        }
+    }
+
+    // The numbers of the fields that belong to it.
+    fn numbers(self, body: &[u8]) -> Option<[u32; 11]>
+        ensures { result ≡ fields_in (row_for self).body body.now }
+    {
+        match self {
+            Identifier::TimeNotice => fields::read_fields(body, &telegram::TIME_NOTICE),
+            Identifier::RingAnswer => fields::read_fields(body, &telegram::RING),
+            Identifier::OperationAnswer => fields::read_fields(body, &telegram::OPERATION_ANSWER),
+            Identifier::TimeRequest => fields::read_fields(body, &telegram::NO_FIELDS),
+            Identifier::BaseArrival => fields::read_fields(body, &telegram::BASE_ARRIVAL),
+            Identifier::RingNotice => fields::read_fields(body, &telegram::RING),
+            Identifier::AnswerReply => fields::read_fields(body, &telegram::REPLY),
+            Identifier::OperationRequest => fields::read_fields(body, &telegram::NO_FIELDS),
+            Identifier::Call => fields::read_fields(body, &telegram::CALL),
+            Identifier::CallerNotice => fields::read_fields(body, &telegram::CALLER_NOTICE),
+            Identifier::CallResult => fields::read_fields(body, &telegram::CALL_RESULT),
+            Identifier::CaptureRequest => read_capture_request(body),
+            Identifier::CaptureReply => fields::read_fields(body, &telegram::REPLY),
+            Identifier::CaptureState => fields::read_fields(body, &telegram::CAPTURE_STATE),
+        }
+    }
+
+    // The message that these numbers make.
+    fn message(self, v: [u32; 11]) -> Message
+        ensures { result ≡ (row_for self).make v }
+    {
+        match self {
+            Identifier::TimeNotice => Message::TimeNotice(time_notice(v)),
+            Identifier::RingAnswer => Message::RingAnswer(ring(v)),
+            Identifier::OperationAnswer => Message::OperationAnswer(operation_answer(v)),
+            Identifier::TimeRequest => Message::TimeRequest,
+            Identifier::BaseArrival => Message::BaseArrival(base_arrival(v)),
+            Identifier::RingNotice => Message::RingNotice(ring(v)),
+            Identifier::AnswerReply => Message::AnswerReply(reply(v)),
+            Identifier::OperationRequest => Message::OperationRequest,
+            Identifier::Call => Message::Call(call(v)),
+            Identifier::CallerNotice => Message::CallerNotice(caller_notice(v)),
+            Identifier::CallResult => Message::CallResult(call_result(v)),
+            Identifier::CaptureRequest => Message::CaptureRequest(capture_request(v)),
+            Identifier::CaptureReply => Message::CaptureReply(reply(v)),
+            Identifier::CaptureState => Message::CaptureState(capture_state(v)),
+        }
     }
 }
 
 // Reads what follows a right header, by its identifier.
-fn read_identified(code: u32, identifier: u32, body: &[u8]) -> Reading
+fn read_identified(code: u32, identifier: u32, body: &[u8]) -> Result<Telegram, ReadError>
     ensures { result ≡ read_in table code identifier body.now }
 {
-    if !is_known(identifier) {
-        return Reading::Refused {
-            number: 9,
+    let Some(known) = Identifier::of(identifier) else {
+        return Err(ReadError::Identifier {
             code,
-            identifier,
-        };
-    }
-    let f = read_body(identifier, body);
-    if !f.ok {
-        return Reading::Refused {
-            number: 10,
-            code,
-            identifier,
-        };
-    }
-    let v = f.values;
-    Reading::Telegram {
+            identifier: Some(identifier),
+        });
+    };
+    let Some(numbers) = known.numbers(body) else {
+        return Err(ReadError::Body { code, identifier });
+    };
+    Ok(Telegram {
         code,
-        message: message_of(identifier, v),
-    }
-}
-
-// What a header says: the organisation code, if all is right with it.
-#[derive(Clone, Copy)]
-enum Header {
-    Code(u32),
-    Bad,
+        message: known.message(numbers),
+    })
 }
 
 // The numbers of the length and of the organisation code, in a straight line.
-fn read_heading(s: &[u8]) -> Fields
+fn read_heading(s: &[u8]) -> Option<[u32; 11]>
     ensures { result ≡ fields_in (length4 ∷ code ∷ []) s.now }
 {
     if s.len() != 8 {
-        return fields::no_fields();
+        return None;
     }
     let n = numerals::four(s[0], s[1], s[2], s[3]);
     let code = numerals::four(s[4], s[5], s[6], s[7]);
-    if fields::in_range(fields::LENGTH, 0, 0, n) & fields::in_range(fields::CODE, 0, n, code) {
-        Fields {
-            ok: true,
-            values: [n, code, 0, 0, 0, 0, 0, 0, 0, 0, 0],
-        }
+    if Field::Length.in_range(0, 0, n) & Field::Code.in_range(0, n, code) {
+        Some([n, code, 0, 0, 0, 0, 0, 0, 0, 0, 0])
     } else {
-        fields::no_fields()
+        None
     }
 }
 
-fn read_header(s: &[u8]) -> Header
+// The organisation code, if all is right with the header.
+fn read_header(s: &[u8]) -> Option<u32>
     ensures { result ≡ header_of s.now }
 {
     if s.len() < 16 {
-        return Header::Bad;
+        return None;
     }
     if s[0] != b'D' {
-        return Header::Bad;
+        return None;
     }
     if s[1] != b'V' {
-        return Header::Bad;
+        return None;
     }
-    let f = read_heading(&s[2..10]);
-    if !f.ok {
-        return Header::Bad;
-    }
-    let v = f.values;
+    let v = read_heading(&s[2..10])?;
     if v[0] as usize != s.len() {
-        return Header::Bad;
+        return None;
     }
-    Header::Code(v[1])
+    Some(v[1])
 }
 
 // What digits spell, six of them in a straight line.
-fn read_identifier(s: &[u8]) -> Digits
+fn read_identifier(s: &[u8]) -> Option<u32>
     ensures { result ≡ digits_in s.now }
 {
     if s.len() != 6 {
         return numerals::read_digits(s);
     }
     let v = numerals::eight(b'0', b'0', s[0], s[1], s[2], s[3], s[4], s[5]);
-    if v < 1000000 {
-        Digits::Value(v)
-    } else {
-        Digits::Malformed
-    }
+    if v < 1000000 { Some(v) } else { None }
 }
 
 // Reads any bytes as one telegram.
-pub fn read(s: &[u8]) -> Reading
+pub fn read(s: &[u8]) -> Result<Telegram, ReadError>
     ensures { result ≡ read_telegram s.now }
 {
-    let h = read_header(s);
-    let Header::Code(code) = h else {
-        return Reading::Refused {
-            number: 8,
-            code: 0,
-            identifier: 0,
-        };
+    let Some(code) = read_header(s) else {
+        return Err(ReadError::Header);
     };
-    let d = read_identifier(&s[10..16]);
-    let Digits::Value(identifier) = d else {
-        return Reading::Refused {
-            number: 9,
+    let Some(identifier) = read_identifier(&s[10..16]) else {
+        return Err(ReadError::Identifier {
             code,
-            identifier: 0,
-        };
+            identifier: None,
+        });
     };
     read_identified(code, identifier, &s[16..])
 }

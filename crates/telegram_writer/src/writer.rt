@@ -2,12 +2,12 @@
 // both before it puts.
 ghost use Rattle.std.specs.Prelude.{[], ◌∷◌, ◌≡◌, ◌≤◌, length};
 ghost use Rattle.fields.specs.Fields.{all_in};
-ghost use Rattle.telegram.specs.Telegram.{ring_body, in_range, over, size_of, telegram_of, write_answer, write_into};
+ghost use Rattle.telegram.specs.Telegram.{ring_body, reply_body, in_range, over, size_of, telegram_of, write_answer, write_into};
 ghost use Rattle.telegram_forms.specs.Forms.{padded};
 
 use telegram::{
-    AnswerReply, BaseArrival, Call, CallResult, CallerNotice, CaptureReply, CaptureRequest,
-    CaptureState, Message, Number, OperationAnswer, TimeNotice, Written,
+    BaseArrival, Call, CallResult, CallerNotice, CaptureRequest, CaptureState, Message, Number,
+    OperationAnswer, Reply, Ring, TimeNotice, WriteError,
 };
 
 // How many bytes a message is as a telegram.
@@ -67,6 +67,8 @@ fn put(message: Message, code: u32, buffer: &mut [u8]) -> usize
     n
 }
 
+// Whether each message's numbers can stand in their fields. These are functions, not arms of `in_range` below: in one match they would
+// be some hundred lines.
 fn time_notice_in_range(m: TimeNotice) -> bool
     ensures { result ≡ in_range (Message.TimeNotice m) }
 {
@@ -74,17 +76,17 @@ fn time_notice_in_range(m: TimeNotice) -> bool
     fields::all_in(&telegram::TIME_NOTICE, &values)
 }
 
-// The body of a ring notice and of a ring answer.
-fn ring_in_range(channel: u32, kind: u32, source: Number, destination: Number) -> bool
-    ensures { result ≡ all_in ring_body 0 0 (channel ∷ kind ∷ 8 ∷ source.digits ∷ 8 ∷ destination.digits ∷ []) }
+// A ring notice or a ring answer.
+fn ring_in_range(m: Ring) -> bool
+    ensures { result ≡ all_in ring_body 0 0 (m.channel ∷ m.kind ∷ 8 ∷ m.source.digits ∷ 8 ∷ m.destination.digits ∷ []) }
 {
     let values = [
-        channel,
-        kind,
+        m.channel,
+        m.kind,
         Number::LEN,
-        source.digits,
+        m.source.digits,
         Number::LEN,
-        destination.digits,
+        m.destination.digits,
     ];
     fields::all_in(&telegram::RING, &values)
 }
@@ -103,11 +105,12 @@ fn base_arrival_in_range(m: BaseArrival) -> bool
     fields::all_in(&telegram::BASE_ARRIVAL, &values)
 }
 
-fn answer_reply_in_range(m: AnswerReply) -> bool
-    ensures { result ≡ in_range (Message.AnswerReply m) }
+// An answer reply or a capture reply.
+fn reply_in_range(m: Reply) -> bool
+    ensures { result ≡ all_in reply_body 0 0 (m.channel ∷ m.result ∷ []) }
 {
     let values = [m.channel, m.result];
-    fields::all_in(&telegram::ANSWER_REPLY, &values)
+    fields::all_in(&telegram::REPLY, &values)
 }
 
 fn call_in_range(m: Call) -> bool
@@ -163,13 +166,6 @@ fn capture_request_in_range(m: CaptureRequest) -> bool
     fields::all_in(&telegram::CAPTURE_REQUEST, &values)
 }
 
-fn capture_reply_in_range(m: CaptureReply) -> bool
-    ensures { result ≡ in_range (Message.CaptureReply m) }
-{
-    let values = [m.channel, m.result];
-    fields::all_in(&telegram::CAPTURE_REPLY, &values)
-}
-
 fn capture_state_in_range(m: CaptureState) -> bool
     ensures { result ≡ in_range (Message.CaptureState m) }
 {
@@ -182,36 +178,36 @@ fn in_range(message: Message) -> bool
 {
     match message {
         Message::TimeNotice(m) => time_notice_in_range(m),
-        Message::RingAnswer(m) => ring_in_range(m.channel, m.kind, m.source, m.destination),
+        Message::RingAnswer(m) => ring_in_range(m),
         Message::OperationAnswer(m) => operation_answer_in_range(m),
         Message::TimeRequest => true,
         Message::BaseArrival(m) => base_arrival_in_range(m),
-        Message::RingNotice(m) => ring_in_range(m.channel, m.kind, m.source, m.destination),
-        Message::AnswerReply(m) => answer_reply_in_range(m),
+        Message::RingNotice(m) => ring_in_range(m),
+        Message::AnswerReply(m) => reply_in_range(m),
         Message::OperationRequest => true,
         Message::Call(m) => call_in_range(m),
         Message::CallerNotice(m) => caller_notice_in_range(m),
         Message::CallResult(m) => call_result_in_range(m),
         Message::CaptureRequest(m) => capture_request_in_range(m),
-        Message::CaptureReply(m) => capture_reply_in_range(m),
+        Message::CaptureReply(m) => reply_in_range(m),
         Message::CaptureState(m) => capture_state_in_range(m),
     }
 }
 
 // Writes a message under an organisation code to the front of a buffer, or refuses and leaves the buffer as it was.
-pub fn write(message: Message, code: u32, buffer: &mut [u8]) -> Written
+pub fn write(message: Message, code: u32, buffer: &mut [u8]) -> Result<usize, WriteError>
     ensures value { result ≡ write_answer code message (length buffer.old) }
     ensures buffer_after { buffer.new ≡ write_into code message buffer.old }
 {
     let wide = 1023 < code;
     if wide {
-        return Written::OutOfRange;
+        return Err(WriteError::OutOfRange);
     }
     if !in_range(message) {
-        return Written::OutOfRange;
+        return Err(WriteError::OutOfRange);
     }
     if buffer.len() < size(message) {
-        return Written::NoRoom;
+        return Err(WriteError::NoRoom);
     }
-    Written::Count(put(message, code, buffer))
+    Ok(put(message, code, buffer))
 }

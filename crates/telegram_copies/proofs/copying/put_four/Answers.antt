@@ -1,10 +1,10 @@
--- `telegram_copies::copying::put_four` meets its contract: four stores.
+-- `telegram_copies::copying::put_four` meets its contract: four stores, by hundreds.
 -- Assumes nothing.
 use Prim.Native.Nat.{ℕ, ◌+◌, ◌/◌, ◌%◌}
 use mathlib.Core.List.{List}
 use mathlib.Core.Path.{◌≡◌}
 use native.Mathlib.Omega.{arith}
-use lib.ListN.{set, length-set}
+use lib.ListN.{set}
 use lib.Seq.{sets}
 use Rattle.numerals.specs.Digits.{digits_of}
 use Rattle.telegram_forms.proofs.Kept.{put_digits}
@@ -20,15 +20,6 @@ put_hundreds t at v =
     let c : v % 100 / 10 ≡ v / 10 % 10 = omega arith in
     let d : v % 100 % 10 ≡ v % 10 = omega arith in
     rw (a, b, c, d) (put_digits 4 t at v)
-
-pub bounds-buffer-at-2 : goal.bounds-buffer-at-2
-bounds-buffer-at-2 c = simp length-set (omega arith)
-
-pub bounds-buffer-at-3 : goal.bounds-buffer-at-3
-bounds-buffer-at-3 c = simp length-set (omega arith)
-
-pub bounds-buffer-at-4 : goal.bounds-buffer-at-4
-bounds-buffer-at-4 c = simp length-set (omega arith)
 
 pub returns : goal.returns
 returns c = put_hundreds _ _ _

@@ -7,6 +7,4 @@ use Rattle.telegram_forms.proofs.digits.header.Goals as goal
 
 pub returns : goal.returns
 unfolding padded
-returns c =
-    rw (c.three.ensures, c.three-t.ensures, c.four-t-2.ensures, c.four-t.ensures)
-    (put_header (replicate 46 0) _ _ _)
+returns c = rw (c.digits.ensures, c.digits-t-2.ensures, c.digits-t.ensures) (put_header (replicate 46 0) _ _ _)

@@ -3,9 +3,9 @@
 use mathlib.Core.List.{[], ◌∷◌}
 use mathlib.Core.Bool.{true, false}
 use mathlib.Core.Path.{◌≡◌, sym, ◌∙◌}
-use lib.ListN.{length}
+use lib.ListN.{length, take, drop}
 use lib.Dec.{eqb, lit≤}
-use borrow.Author.Tests.{not-true, not-false, le-leb, lt-leb, eq-eqb, ne_eqb}
+use borrow.Author.Tests.{le-leb, lt-leb, eq-eqb, ne_eqb}
 use Rattle.fields.specs.Fields.{length4, code, values_in}
 use Rattle.fields.proofs.Kept.{fields-found, fields-none}
 use Rattle.telegram.specs.Telegram.{nth, heading, header_ok}
@@ -23,26 +23,26 @@ pub returns-then-s-ne86 : goal.returns-then-s-ne86
 unfolding header_ok
 returns-then-s-ne86 c = simp (le-leb _ _ c.if-s-lt16.false, eq-eqb _ _ c.if-s-ne68.false, ne_eqb _ _ c.if-s-ne86.true)
 
-pub returns-then-not-f : goal.returns-then-not-f
+pub returns-in_err-v : goal.returns-in_err-v
 unfolding header_ok
-returns-then-not-f c =
-    let f = fields-none (length4 ∷ code ∷ []) _ _ c.read_heading-f.ensures (lit≤ tt) (not-true _ c.if-not-f.true) in
-    simp (le-leb _ _ c.if-s-lt16.false, eq-eqb _ _ c.if-s-ne68.false, eq-eqb _ _ c.if-s-ne86.false, f)
+returns-in_err-v c =
+    let f = fields-none (length4 ∷ code ∷ []) (take 8 (drop 2 c.args.s.now)) (sym c.in_err-v.ensures) (lit≤ tt) in
+    c.from_residual.ensures ∙ simp (le-leb _ _ c.if-s-lt16.false, eq-eqb _ _ c.if-s-ne68.false, eq-eqb _ _ c.if-s-ne86.false, f)
 
 pub returns-then-v-s : goal.returns-then-v-s
 unfolding header_ok values_in
 returns-then-v-s c =
-    let f = fields-found (length4 ∷ code ∷ []) _ _ c.read_heading-f.ensures (not-false _ c.if-not-f.false) in
     let s = c.args.s.now in
-    let v : nth c.read_heading-f.result.values 0 ≡ nth (heading s) 0 = rw f.1 in
+    let f = fields-found (length4 ∷ code ∷ []) (take 8 (drop 2 s)) c.in_ok-v.v (sym c.in_ok-v.ensures) in
+    let v : nth c.in_ok-v.v 0 ≡ nth (heading s) 0 = rw f.1 in
     let n : eqb (nth (heading s) 0) (length s) ≡ false = ne_eqb _ _ (λ q. c.if-v-s.true (v ∙ q)) in
     simp (le-leb _ _ c.if-s-lt16.false, eq-eqb _ _ c.if-s-ne68.false, eq-eqb _ _ c.if-s-ne86.false, f.0, n)
 
 pub returns : goal.returns
 unfolding header_ok values_in
 returns c =
-    let f = fields-found (length4 ∷ code ∷ []) _ _ c.read_heading-f.ensures (not-false _ c.if-not-f.false) in
     let s = c.args.s.now in
-    let v : nth c.read_heading-f.result.values 0 ≡ nth (heading s) 0 = rw f.1 in
+    let f = fields-found (length4 ∷ code ∷ []) (take 8 (drop 2 s)) c.in_ok-v.v (sym c.in_ok-v.ensures) in
+    let v : nth c.in_ok-v.v 0 ≡ nth (heading s) 0 = rw f.1 in
     let n : eqb (nth (heading s) 0) (length s) ≡ true = eq-eqb _ _ (sym v ∙ c.if-v-s.false) in
     simp (le-leb _ _ c.if-s-lt16.false, eq-eqb _ _ c.if-s-ne68.false, eq-eqb _ _ c.if-s-ne86.false, f.0, n, f.1)

@@ -6,16 +6,16 @@ use native.Mathlib.Omega.{arith}
 use lib.Dec.{ltb}
 use lib.ListN.{length}
 use borrow.Author.Tests.{lt-ltb, le-ltb}
+use Rattle.std.specs.Prelude.{Some, None}
 use Rattle.laws.proofs.Lists.{tab}
 use Rattle.numerals.specs.Digits.{all_digits, value_from, digits_in}
 use Rattle.numerals.specs.Held.{as_number}
-use Rattle.numerals.specs.declared.digits.Digits.TheVariants.{Value, Malformed}
 use Rattle.numerals.proofs.Kept.{digits-spelt}
 use Rattle.telegram_reader.proofs.StepLaws.{byte_by_byte}
 use Rattle.telegram_reader.proofs.reader.read_identifier.Goals as goal
 use Rattle.telegram_reader.proofs.reader.read_identifier.Goals.{After-eight-v}
 
-told : (c : After-eight-v) → digits_in c.args.s.now ≡ cond (ltb c.eight-v.result 1000000) (Value c.eight-v.result) Malformed
+told : (c : After-eight-v) → digits_in c.args.s.now ≡ cond (ltb c.eight-v.result 1000000) (Some c.eight-v.result) None
 unfolding tab all_digits value_from
 told c =
     let b = c.args.s.now in
