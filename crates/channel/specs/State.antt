@@ -1,11 +1,7 @@
 -- What 01's line rules ask of the state of one channel, and a channel on which nothing goes on.
-use Rattle.std.specs.Prelude.{ℕ, zero, suc, ◌-◌, ◌/◌, ◌%◌, ◌^◌, Bool, true, false, cond, ltb, eqb}
-use Rattle.channel.specs.declared.state.Party.{Party}
-use Rattle.channel.specs.declared.state.Party.TheVariants.{Nobody, By}
+use Rattle.std.specs.Prelude.{ℕ, zero, suc, ◌-◌, ◌/◌, ◌%◌, ◌^◌, Bool, false, cond, ltb, eqb, Option, None, Some, is_some, unwrap_or}
 use Rattle.channel.specs.declared.state.Call.{Call}
-use Rattle.channel.specs.declared.state.Call.TheVariants.{Closed, Open}
 use Rattle.channel.specs.declared.state.Arrival.{Arrival}
-use Rattle.channel.specs.declared.state.Arrival.TheVariants.{Absent, Present}
 use Rattle.channel.specs.declared.state.Channel.{Channel}
 
 -- the set of one desk; a set has eight places
@@ -23,31 +19,27 @@ is_in (suc d) m = is_in d (m / 2)
 
 abbrev pub free_channel : ℕ → ℕ → Channel
 free_channel k m =
-    record { code = k; entitled = m; holder = Nobody; presser = Nobody; quiet = 0; release = 0; ring = 0; call = Closed; arrival = Absent }
+    record { code = k; entitled = m; holder = None; presser = None; quiet = 0; release = 0; ring = 0; call = None; arrival = None }
 
 -- somebody holds the channel, or its talk key
-abbrev pub is_held : Party → Bool
-is_held Nobody = false
-is_held (By d) = true
+abbrev pub is_held : Option ℕ → Bool
+is_held p = is_some p
 
-abbrev pub held_by : ℕ → Party → Bool
-held_by d Nobody = false
-held_by d (By h) = eqb h d
+abbrev pub held_by : ℕ → Option ℕ → Bool
+held_by d None = false
+held_by d (Some h) = eqb h d
 
 -- the holder, as a place
-abbrev pub holder_place : Party → ℕ
-holder_place Nobody = 0
-holder_place (By d) = d
+abbrev pub holder_place : Option ℕ → ℕ
+holder_place p = unwrap_or p 0
 
 -- a desk or none, as a set
-abbrev pub party_set : Party → ℕ
-party_set Nobody = 0
-party_set (By d) = only d
+abbrev pub party_set : Option ℕ → ℕ
+party_set None = 0
+party_set (Some d) = only d
 
-abbrev pub is_open : Call → Bool
-is_open Closed = false
-is_open (Open k d m b s) = true
+abbrev pub is_open : Option Call → Bool
+is_open k = is_some k
 
-abbrev pub is_present : Arrival → Bool
-is_present Absent = false
-is_present (Present k m b n) = true
+abbrev pub is_present : Option Arrival → Bool
+is_present a = is_some a

@@ -4,24 +4,15 @@ ghost use Rattle.channel.specs.State.{free_channel};
 
 use telegram::Number;
 
-// A desk by its place in the plan, or none: who holds a channel, and who presses on it.
+// A call that is open. `kind` is its type, `recipients` the desks that it was told to (01: its told set). The type and the
+// direction stay numbers: a caller's memory may hold any, and `plain_set::Returns` gives them back unchanged.
 #[derive(Clone, Copy)]
-pub enum Party {
-    Nobody,
-    By(u8),
-}
-
-// The open call, if there is one. `kind` is its type, `recipients` the desks that it was told to (01: its told set).
-#[derive(Clone, Copy)]
-pub enum Call {
-    Closed,
-    Open {
-        kind: u8,
-        direction: u8,
-        recipients: u8,
-        base: u16,
-        source: Number,
-    },
+pub struct Call {
+    pub kind: u8,
+    pub direction: u8,
+    pub recipients: u8,
+    pub base: u16,
+    pub source: Number,
 }
 
 impl Call {
@@ -36,16 +27,13 @@ impl Call {
     pub const UP: u8 = 2;
 }
 
-// The mobile that talks, if there is one.
+// A mobile that talks.
 #[derive(Clone, Copy)]
-pub enum Arrival {
-    Absent,
-    Present {
-        kind: u8,
-        recipients: u8,
-        base: u8,
-        number: Number,
-    },
+pub struct Arrival {
+    pub kind: u8,
+    pub recipients: u8,
+    pub base: u8,
+    pub number: Number,
 }
 
 #[derive(Clone, Copy)]
@@ -53,15 +41,15 @@ pub struct Channel {
     pub code: u8,
     // The desks that may use it (01: its mask).
     pub entitled: u8,
-    // Who has captured it, and who presses the talk key on it: the holder, if anyone.
-    pub holder: Party,
-    pub presser: Party,
+    // Who has captured it, and who presses the talk key on it, the holder if anyone: a desk by its place in the plan.
+    pub holder: Option<u8>,
+    pub presser: Option<u8>,
     // The quiet timer, the release timer and, while a mobile rings, the ring timer: seconds left, 0 when stopped (01: clocks).
     pub quiet: u8,
     pub release: u8,
     pub ring: u8,
-    pub call: Call,
-    pub arrival: Arrival,
+    pub call: Option<Call>,
+    pub arrival: Option<Arrival>,
 }
 
 impl Channel {
@@ -81,13 +69,13 @@ impl Channel {
         Channel {
             code,
             entitled,
-            holder: Party::Nobody,
-            presser: Party::Nobody,
+            holder: None,
+            presser: None,
             quiet: 0,
             release: 0,
             ring: 0,
-            call: Call::Closed,
-            arrival: Arrival::Absent,
+            call: None,
+            arrival: None,
         }
     }
 }
@@ -116,7 +104,7 @@ pub enum Event {
 }
 
 // What a record says, whichever desk gets it: a contact or a telegram about the channel. A desk's own number is not in it: it
-// is filled in when the record to that desk is made.
+// is filled in when the record to that desk is made. Types, orders, results and reasons are the telegrams' own numbers, as in the rules.
 #[derive(Clone, Copy)]
 pub enum Notice {
     PressAnswer {

@@ -5,61 +5,40 @@ ghost use Rattle.line_rules.specs.Rules.{step, to, captured, capture, cut, relea
 ghost use Rattle.sends.specs.Scripts.{Follows};
 ghost use Rattle.channel.specs.declared.state.Notice.TheVariants.{CaptureReply};
 
-use channel::{Call, Channel, Moved, Notice, Party, Send, held_by, only, set_of};
-use sends::{SILENT, alone, end, freed, press_sends, taken};
+use channel::{Channel, Moved, Notice, Send, held_by, set_of};
+use sends::{SILENT, alone, end, freed, press_sends, taken, to_desk};
 
-// The answer to a desk that asks for a channel or gives it back.
-fn reply(d: u8, res: u8) -> Send
-    ensures { result ≡ to (only d) (CaptureReply res) }
-{
-    let recipients = only(d);
-    Send {
-        recipients,
-        notice: Notice::CaptureReply { result: res },
-    }
-}
-
-// Nothing happens but an answer.
+// Nothing happens but the answer to a desk that asks for a channel or gives it back.
 fn replied(d: u8, res: u8, channel: Channel) -> Moved
     ensures { Follows result (step channel (to (only d) (CaptureReply res) ∷ [])) }
 {
-    let answer = reply(d, res);
-    alone(channel, answer)
+    alone(channel, to_desk(d, Notice::CaptureReply { result: res }))
 }
 
 // A free channel gets its holder.
+#[tactic(auto, unfolding(sends::specs::Scripts::heard))]
 fn captured(listeners: u8, d: u8, channel: Channel) -> Moved
     ensures { Follows result (captured listeners d channel) }
 {
-    let presser = channel.presser;
-    let call = channel.call;
-    let arrival = channel.arrival;
-    let answer = reply(d, 0);
+    let answer = to_desk(d, Notice::CaptureReply { result: 0 });
     let state = taken(listeners, d);
-    let silent = SILENT;
     Moved {
         next: Channel {
-            code: channel.code,
-            entitled: channel.entitled,
-            holder: Party::By(d),
-            presser,
-            quiet: channel.quiet,
+            holder: Some(d),
             release: Channel::RELEASE,
-            ring: channel.ring,
-            call,
-            arrival,
+            ..channel
         },
-        sends: [answer, state, silent, silent, silent, silent, silent],
+        sends: [answer, state, SILENT, SILENT, SILENT, SILENT, SILENT],
     }
 }
 
 // While a mobile rings nobody gets the channel.
+#[tactic(auto, unfolding(line_rules::specs::Rules::capture))]
 pub fn capture(listeners: u8, d: u8, channel: Channel) -> Moved
     ensures { Follows result (capture listeners d channel) }
 {
-    let holder = channel.holder;
-    match holder {
-        Party::Nobody => {
+    match channel.holder {
+        None => {
             let rings = 0 < channel.ring;
             if rings {
                 replied(d, 1, channel)
@@ -67,7 +46,7 @@ pub fn capture(listeners: u8, d: u8, channel: Channel) -> Moved
                 captured(listeners, d, channel)
             }
         }
-        Party::By(h) => {
+        Some(h) => {
             let own = h == d;
             if own {
                 replied(d, 0, channel)
@@ -82,44 +61,35 @@ pub fn capture(listeners: u8, d: u8, channel: Channel) -> Moved
 fn cut_after(first: Send, listeners: u8, channel: Channel) -> Moved
     ensures { Follows result (step (cut listeners channel).next (first ∷ (cut listeners channel).sends)) }
 {
-    let holder = channel.holder;
-    let presser = channel.presser;
-    let call = channel.call;
-    let stays = channel.arrival;
-    let off = press_sends(0, set_of(presser), call);
-    let answer = off.answer;
-    let talk = off.talk;
-    let end = end(1, call);
-    let state = freed(listeners, holder);
-    let silent = SILENT;
+    let off = press_sends(0, set_of(channel.presser), channel.call);
+    let end = end(1, channel.call);
+    let state = freed(listeners, channel.holder);
     Moved {
         next: Channel {
-            code: channel.code,
-            entitled: channel.entitled,
-            holder: Party::Nobody,
-            presser: Party::Nobody,
+            holder: None,
+            presser: None,
             quiet: 0,
             release: 0,
-            ring: channel.ring,
-            call: Call::Closed,
-            arrival: stays,
+            call: None,
+            ..channel
         },
-        sends: [first, answer, talk, end, state, silent, silent],
+        sends: [first, off.answer, off.talk, end, state, SILENT, SILENT],
     }
 }
 
+#[tactic(auto, unfolding(sends::specs::Scripts::heard))]
 pub fn cut(listeners: u8, channel: Channel) -> Moved
     ensures { Follows result (cut listeners channel) }
 {
     cut_after(SILENT, listeners, channel)
 }
 
+#[tactic(auto, unfolding(line_rules::specs::Rules::release))]
 pub fn release(listeners: u8, d: u8, channel: Channel) -> Moved
     ensures { Follows result (release listeners d channel) }
 {
-    let holder = channel.holder;
-    if held_by(d, holder) {
-        let answer = reply(d, 0);
+    if held_by(d, channel.holder) {
+        let answer = to_desk(d, Notice::CaptureReply { result: 0 });
         cut_after(answer, listeners, channel)
     } else {
         replied(d, 1, channel)

@@ -6,6 +6,7 @@ use mathlib.Core.Bool.{Bool}
 use mathlib.Core.Logic.{inl, inr}
 use mathlib.Core.Path.{◌≡◌, refl, sym, ap, ◌∙◌}
 use lib.Dec.{eqb, leb, ltb}
+use Rattle.std.specs.Prelude.{Option, None, Some}
 use Rattle.laws.specs.Each.{Each}
 use Rattle.laws.proofs.Each.{each_append}
 use Rattle.laws.proofs.Tests.{either}
@@ -13,12 +14,8 @@ use Rattle.telegram.specs.Telegram.{num}
 use Rattle.telegram.specs.declared.message.Number.{Number}
 use Rattle.channel.specs.State.{only, is_held, held_by, is_present}
 use Rattle.line_rules.specs.Rules.{step, sent_if, happens, capture, capture_at, cut, release, press_on, press_off, mobile_on, mobile_off, ring, unanswered, answered, ring_answer, tick, tick_ring, tick_idle, tick_quiet, tick_release, end_talk, end_call, is_pressed, is_ringing, opened_by, opening_sends, call_sends, end_of, press_off_sends, press_call, mobile_call, mobile_off_sends, ring_off_sends, freed_sends, mobile_recipients}
-use Rattle.channel.specs.declared.state.Party.{Party}
-use Rattle.channel.specs.declared.state.Party.TheVariants.{Nobody, By}
 use Rattle.channel.specs.declared.state.Call.{Call}
-use Rattle.channel.specs.declared.state.Call.TheVariants.{Closed, Open}
 use Rattle.channel.specs.declared.state.Arrival.{Arrival}
-use Rattle.channel.specs.declared.state.Arrival.TheVariants.{Absent, Present}
 use Rattle.channel.specs.declared.state.Channel.{Channel}
 use Rattle.channel.specs.declared.state.Send.{Send}
 use Rattle.channel.specs.declared.state.Event.{Event}
@@ -54,17 +51,17 @@ module _ (w : Around) (e : ℕ) (c : Channel) (listen : AllListen w c e) (timed 
   told_in : (c' : Channel) → c'.entitled ≡ c.entitled → (m : ℕ) (n : Number) → Told w c m n → Told w c' m n
   told_in c' q m n t = record { listen = λ d i. rw q (t.listen d i); learn = t.learn }
 
-  holder_in : (c' : Channel) → c'.entitled ≡ c.entitled → (h : Party) → HolderListens w c h → HolderListens w c' h
-  holder_in c' q Nobody l = tt
-  holder_in c' q (By d) l = rw q l
+  holder_in : (c' : Channel) → c'.entitled ≡ c.entitled → (h : Option ℕ) → HolderListens w c h → HolderListens w c' h
+  holder_in c' q None l = tt
+  holder_in c' q (Some d) l = rw q l
 
-  call_in : (c' : Channel) → c'.entitled ≡ c.entitled → (k : Call) → CallTold w c k → CallTold w c' k
-  call_in c' q Closed t = tt
-  call_in c' q (Open k d m b s) t = told_in c' q m s t
+  call_in : (c' : Channel) → c'.entitled ≡ c.entitled → (k : Option Call) → CallTold w c k → CallTold w c' k
+  call_in c' q None t = tt
+  call_in c' q (Some k) t = told_in c' q k.recipients k.source t
 
-  arrival_in_lem : (c' : Channel) → c'.entitled ≡ c.entitled → (a : Arrival) → ArrivalTold w c a → ArrivalTold w c' a
-  arrival_in_lem c' q Absent t = tt
-  arrival_in_lem c' q (Present k m b n) t = told_in c' q m n t
+  arrival_in_lem : (c' : Channel) → c'.entitled ≡ c.entitled → (a : Option Arrival) → ArrivalTold w c a → ArrivalTold w c' a
+  arrival_in_lem c' q None t = tt
+  arrival_in_lem c' q (Some a) t = told_in c' q a.recipients a.number t
 
   -- a step, by what it leaves and what it sends
   left : (c' : Channel) (ss : List Send) → c'.entitled ≡ c.entitled
@@ -84,47 +81,47 @@ module _ (w : Around) (e : ℕ) (c : Channel) (listen : AllListen w c e) (timed 
   alone : (d : ℕ) → Listens w c d → AllListen w c (only d)
   alone d l d' i = rw (only-is d' d i) l
 
-  holder_alone : (d : ℕ) → c.holder ≡ By d → AllListen w c (only d)
+  holder_alone : (d : ℕ) → c.holder ≡ Some d → AllListen w c (only d)
   holder_alone d q = alone d (rw q at ok.holder_listens)
 
-  call_sends_told : (t r : ℕ) (k : Call) → CallTold w c k → SendsTold (call_sends t r k)
-  call_sends_told t r Closed o = tt
-  call_sends_told t r (Open k d m b s) o = (o, tt)
+  call_sends_told : (t r : ℕ) (k : Option Call) → CallTold w c k → SendsTold (call_sends t r k)
+  call_sends_told t r None o = tt
+  call_sends_told t r (Some k) o = (o, tt)
 
   -- who presses is the holder
-  press_off_told : (p : Party) → c.presser ≡ p → SendsTold (press_off_sends p c.call)
-  press_off_told Nobody q = tt
-  press_off_told (By d) q =
+  press_off_told : (p : Option ℕ) → c.presser ≡ p → SendsTold (press_off_sends p c.call)
+  press_off_told None q = tt
+  press_off_told (Some d) q =
       let l = holder_alone d (sym (timed.presser_holds (ap is_held q)) ∙ q) in
       (l, (l, tt))
 
-  off-told : (a : Arrival) → ArrivalTold w c a → SendsTold (mobile_off_sends a)
-  off-told Absent t = tt
-  off-told (Present k m b n) t = (t.listen, (t, (t, tt)))
+  off-told : (a : Option Arrival) → ArrivalTold w c a → SendsTold (mobile_off_sends a)
+  off-told None t = tt
+  off-told (Some a) t = (t.listen, (t, (t, tt)))
 
-  ring_off_told : (k : Call) → CallTold w c k → SendsTold (ring_off_sends k)
-  ring_off_told Closed t = tt
-  ring_off_told (Open k d m b s) t = (t.listen, (t.listen, tt))
+  ring_off_told : (k : Option Call) → CallTold w c k → SendsTold (ring_off_sends k)
+  ring_off_told None t = tt
+  ring_off_told (Some k) t = (t.listen, (t.listen, tt))
 
   freed-told : SendsTold (freed_sends e c)
   freed-told = (listen, tt)
 
-  opened-told : (k new : Call) → CallTold w c k → CallTold w c new → CallTold w c (opened_by k new)
-  opened-told Closed new o p = p
-  opened-told (Open k d m b s) new o p = o
+  opened-told : (k : Option Call) (new : Call) → CallTold w c k → CallTold w c (Some new) → CallTold w c (opened_by k new)
+  opened-told None new o p = p
+  opened-told (Some k) new o p = o
 
-  opening_told : (k new : Call) → CallTold w c new → SendsTold (opening_sends k new)
-  opening_told Closed new p = call_sends_told 1 0 new p
-  opening_told (Open k d m b s) new p = tt
+  opening_told : (k : Option Call) (new : Call) → CallTold w c (Some new) → SendsTold (opening_sends k new)
+  opening_told None new p = call_sends_told 1 0 (Some new) p
+  opening_told (Some k) new p = tt
 
   -- ---- the rules
 
-  capture_at-among : (h : Party) (d : ℕ) → Listens w c d → StepAmong w c (capture_at h e d c)
-  capture_at-among Nobody d l =
+  capture_at-among : (h : Option ℕ) (d : ℕ) → Listens w c d → StepAmong w c (capture_at h e d c)
+  capture_at-among None d l =
       either (StepAmong w c) (is_ringing c) _ _
       (plain-among _ (alone d l, tt))
       (left _ _ refl l ok.call-told ok.arrival-told (alone d l, (listen, tt)))
-  capture_at-among (By h) d l = plain-among _ (alone d l, tt)
+  capture_at-among (Some h) d l = plain-among _ (alone d l, tt)
 
   capture-among : (d : ℕ) → Listens w c d → StepAmong w c (capture e d c)
   unfolding capture
@@ -145,11 +142,11 @@ module _ (w : Around) (e : ℕ) (c : Channel) (listen : AllListen w c e) (timed 
       (record { next-among = k.next-among; sends-told = (alone d l, k.sends-told) })
       (plain-among _ (alone d l, tt))
 
-  press_on-among : (d : ℕ) (n : Number) → c.holder ≡ By d → n ≡ w.own d → StepAmong w c (press_on d n c)
+  press_on-among : (d : ℕ) (n : Number) → c.holder ≡ Some d → n ≡ w.own d → StepAmong w c (press_on d n c)
   unfolding press_on
   press_on-among d n q g =
       let l = holder_alone d q in
-      let own : CallTold w c (press_call d n) = record { listen = l; learn = λ d' i. inr (inl (g ∙ ap w.own (sym (only-is d' d i)))) } in
+      let own : CallTold w c (Some (press_call d n)) = record { listen = l; learn = λ d' i. inr (inl (g ∙ ap w.own (sym (only-is d' d i)))) } in
       left _ _ refl ok.holder_listens (opened-told c.call (press_call d n) ok.call-told own) ok.arrival-told
       (l, each_append (SendTold w c) (opening_sends c.call (press_call d n)) _ (opening_told c.call (press_call d n) own) (l, tt))
 
@@ -157,9 +154,9 @@ module _ (w : Around) (e : ℕ) (c : Channel) (listen : AllListen w c e) (timed 
   unfolding press_off
   press_off-among = left _ _ refl ok.holder_listens ok.call-told ok.arrival-told (press_off_told c.presser refl)
 
-  mobile-listen : (h : Party) → c.holder ≡ h → AllListen w c (mobile_recipients h e)
-  mobile-listen Nobody q = listen
-  mobile-listen (By d) q = holder_alone d q
+  mobile-listen : (h : Option ℕ) → c.holder ≡ h → AllListen w c (mobile_recipients h e)
+  mobile-listen None q = listen
+  mobile-listen (Some d) q = holder_alone d q
 
   mobile_on-among : (b : ℕ) (n : Number) → w.mobile n → StepAmong w c (mobile_on e b n c)
   unfolding mobile_on

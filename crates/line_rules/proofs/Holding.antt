@@ -6,23 +6,23 @@ use mathlib.Core.Logic.{◌⊎◌, inl, inr}
 use mathlib.Core.Path.{◌≡◌, refl, sym, ap, ◌∙◌}
 use lib.Dec.{leb, ltb}
 use borrow.Author.Tests.{eqb-true, leb-true}
+use Rattle.std.specs.Prelude.{Some}
 use Rattle.laws.proofs.Tests.{either}
 use Rattle.channel.specs.State.{is_held, held_by, is_present}
 use Rattle.line_rules.specs.Rules.{Step, happens, capture, release, press_on, press_off, mobile_on, mobile_off, ring, unanswered, ring_answer, tick, tick_ring, tick_idle, tick_quiet, tick_release, is_pressed, is_ringing}
 use Rattle.line_rules.specs.Invariant.{ChannelOk, Fits}
 use Rattle.line_rules.specs.Promises.{Ends, HoldingLasts}
 use Rattle.line_rules.proofs.Rings.{held-silent}
-use Rattle.channel.specs.declared.state.Party.TheVariants.{By}
 use Rattle.channel.specs.declared.state.Channel.{Channel}
 use Rattle.channel.specs.declared.state.Event.TheVariants.{Capture, Release, Cut, PressOn, PressOff, MobileOn, MobileOff, Ring, Cancel, RingAnswer, Tick, EndTalk, EndCall}
 
-module _ (e : ℕ) (c : Channel) (d : ℕ) (h : c.holder ≡ By d) where
+module _ (e : ℕ) (c : Channel) (d : ℕ) (h : c.holder ≡ Some d) where
   -- desk d holds after a step, or what may end it has come
   abbrev Lasts : Type 0 → Step → Type 0
-  Lasts E st = (st.next.holder ≡ By d) ⊎ E
+  Lasts E st = (st.next.holder ≡ Some d) ⊎ E
 
   -- a step that a test ends, where the test holds only if that has come
-  lasts_unless : (E : Type 0) (t : Bool) (a b : Step) → (t ≡ true → E) → b.next.holder ≡ By d → Lasts E (cond t a b)
+  lasts_unless : (E : Type 0) (t : Bool) (a b : Step) → (t ≡ true → E) → b.next.holder ≡ Some d → Lasts E (cond t a b)
   lasts_unless E true a b p q = inr (p refl)
   lasts_unless E false a b p q = inl q
 

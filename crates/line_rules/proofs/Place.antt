@@ -4,12 +4,11 @@ use Prim.Native.Nat.{ℕ}
 use mathlib.Core.Bool.{Bool}
 use mathlib.Core.Path.{◌≡◌, refl}
 use lib.Dec.{leb, ltb}
+use Rattle.std.specs.Prelude.{Option, None, Some}
 use Rattle.laws.proofs.Tests.{either}
 use Rattle.channel.specs.State.{is_held, held_by, is_present}
 use Rattle.line_rules.specs.Rules.{Step, happens, capture, capture_at, cut, release, press_on, press_off, mobile_on, mobile_off, ring, unanswered, answered, ring_answer, tick, tick_ring, tick_idle, tick_quiet, tick_release, end_talk, end_call, is_pressed, is_ringing}
 use Rattle.line_rules.specs.Promises.{KeepsPlace}
-use Rattle.channel.specs.declared.state.Party.{Party}
-use Rattle.channel.specs.declared.state.Party.TheVariants.{Nobody, By}
 use Rattle.channel.specs.declared.state.Channel.{Channel}
 use Rattle.channel.specs.declared.state.Event.TheVariants.{Capture, Release, Cut, PressOn, PressOff, MobileOn, MobileOff, Ring, Cancel, RingAnswer, Tick, EndTalk, EndCall}
 
@@ -17,9 +16,9 @@ module _ (e : ℕ) (c : Channel) where
   abbrev Keeps : Step → Type 0
   Keeps st = (st.next.code ≡ c.code) × (st.next.entitled ≡ c.entitled)
 
-  capture_at_keeps : (h : Party) (d : ℕ) → Keeps (capture_at h e d c)
-  capture_at_keeps Nobody d = either Keeps (is_ringing c) _ _ (refl, refl) (refl, refl)
-  capture_at_keeps (By h) d = (refl, refl)
+  capture_at_keeps : (h : Option ℕ) (d : ℕ) → Keeps (capture_at h e d c)
+  capture_at_keeps None d = either Keeps (is_ringing c) _ _ (refl, refl) (refl, refl)
+  capture_at_keeps (Some h) d = (refl, refl)
 
   release_keeps : (d : ℕ) → Keeps (release e d c)
   unfolding release cut

@@ -8,6 +8,7 @@ use mathlib.Core.Path.{◌≡◌, refl}
 use native.Mathlib.Omega.{arith}
 use lib.Dec.{eqb, leb, ltb}
 use borrow.Author.Tests.{le-leb, lt-ltb, leb-true}
+use Rattle.std.specs.Prelude.{Option, None, Some}
 use Rattle.laws.proofs.Each.{each_append}
 use Rattle.laws.proofs.Tests.{both, by_test, either}
 use Rattle.fields.specs.Fields.{all_in}
@@ -17,12 +18,8 @@ use Rattle.telegram.specs.declared.message.Message.TheVariants.{CaptureReply as 
 use Rattle.channel.specs.State.{is_held, held_by, is_present}
 use Rattle.line_rules.specs.Rules.{Step, step, sent_if, happens, capture, capture_at, cut, release, press_on, press_off, mobile_on, mobile_off, ring, unanswered, answered, ring_answer, tick, tick_ring, tick_idle, tick_quiet, tick_release, freed, end_talk, end_call, is_pressed, is_ringing, opened_by, opening_sends, call_sends, end_of, kind_of, press_off_sends, press_call, mobile_call, ring_call, mobile_off_sends, ring_off_sends, freed_sends, mobile_recipients}
 use Rattle.line_rules.specs.Notices.{telegram}
-use Rattle.channel.specs.declared.state.Party.{Party}
-use Rattle.channel.specs.declared.state.Party.TheVariants.{Nobody, By}
 use Rattle.channel.specs.declared.state.Call.{Call}
-use Rattle.channel.specs.declared.state.Call.TheVariants.{Closed, Open}
 use Rattle.channel.specs.declared.state.Arrival.{Arrival}
-use Rattle.channel.specs.declared.state.Arrival.TheVariants.{Absent, Present}
 use Rattle.channel.specs.declared.state.Channel.{Channel}
 use Rattle.channel.specs.declared.state.Event.{Event}
 use Rattle.channel.specs.declared.state.Event.TheVariants.{Capture, Release, Cut, PressOn, PressOff, MobileOn, MobileOff, Ring, Cancel, RingAnswer, Tick, EndTalk, EndCall}
@@ -118,28 +115,28 @@ pub record Ranged (st : Step) : Type 0 where
 
 module _ (e : ℕ) (c : Channel) (ok : InRange c) where
   -- the type of the talk in a call
-  kind_ok : (k : Call) → CallOk k → KindOk (kind_of k)
-  kind_ok Closed o = inl refl
-  kind_ok (Open k d m b s) o = o.kind-is
+  kind_ok : (k : Option Call) → CallOk k → KindOk (kind_of k)
+  kind_ok None o = inl refl
+  kind_ok (Some k) o = o.kind-is
 
-  call_sends_ok : (t r : ℕ) → t ≤ 1 → ReasonOk r → (k : Call) → CallOk k → SendsOk (call_sends t r k)
-  call_sends_ok t r l h Closed o = tt
-  call_sends_ok t r l h (Open k d m b s) o = ((o, l, h), tt)
+  call_sends_ok : (t r : ℕ) → t ≤ 1 → ReasonOk r → (k : Option Call) → CallOk k → SendsOk (call_sends t r k)
+  call_sends_ok t r l h None o = tt
+  call_sends_ok t r l h (Some k) o = ((o, l, h), tt)
 
-  end_ok : (r : ℕ) → ReasonOk r → (k : Call) → CallOk k → SendsOk (end_of r k)
+  end_ok : (r : ℕ) → ReasonOk r → (k : Option Call) → CallOk k → SendsOk (end_of r k)
   end_ok r h = call_sends_ok 0 r (omega arith) h
 
-  press_off_ok : (p : Party) → SendsOk (press_off_sends p c.call)
-  press_off_ok Nobody = tt
-  press_off_ok (By d) = (tt, ((kind_ok c.call ok.call_ok, omega arith), tt))
+  press_off_ok : (p : Option ℕ) → SendsOk (press_off_sends p c.call)
+  press_off_ok None = tt
+  press_off_ok (Some d) = (tt, ((kind_ok c.call ok.call_ok, omega arith), tt))
 
-  off-ok : (a : Arrival) → ArrivalOk a → SendsOk (mobile_off_sends a)
-  off-ok Absent o = tt
-  off-ok (Present k m b n) o = (tt, ((o, omega arith), ((o, omega arith), tt)))
+  off-ok : (a : Option Arrival) → ArrivalOk a → SendsOk (mobile_off_sends a)
+  off-ok None o = tt
+  off-ok (Some a) o = (tt, ((o, omega arith), ((o, omega arith), tt)))
 
-  ring_off_ok : (k : Call) → SendsOk (ring_off_sends k)
-  ring_off_ok Closed = tt
-  ring_off_ok (Open k d m b s) = (tt, (omega arith, tt))
+  ring_off_ok : (k : Option Call) → SendsOk (ring_off_sends k)
+  ring_off_ok None = tt
+  ring_off_ok (Some k) = (tt, (omega arith, tt))
 
   freed-ok : SendsOk (freed_sends e c)
   freed-ok = (omega arith, tt)
@@ -155,12 +152,12 @@ module _ (e : ℕ) (c : Channel) (ok : InRange c) where
   reply-ok true d = omega arith
   reply-ok false d = omega arith
 
-  capture_at-ok : (h : Party) (d : ℕ) → Ranged (capture_at h e d c)
-  capture_at-ok Nobody d =
+  capture_at-ok : (h : Option ℕ) (d : ℕ) → Ranged (capture_at h e d c)
+  capture_at-ok None d =
       either Ranged (is_ringing c) _ _
       (record { next-ok = ok; sends-ok = (omega arith, tt) })
       (record { next-ok = kept _ refl refl refl; sends-ok = (omega arith, (omega arith, tt)) })
-  capture_at-ok (By h) d = record { next-ok = ok; sends-ok = (reply-ok (eqb h d) d, tt) }
+  capture_at-ok (Some h) d = record { next-ok = ok; sends-ok = (reply-ok (eqb h d) d, tt) }
 
   capture-ok : (d : ℕ) → Ranged (capture e d c)
   unfolding capture
@@ -183,18 +180,18 @@ module _ (e : ℕ) (c : Channel) (ok : InRange c) where
       (record { next-ok = ok; sends-ok = (omega arith, tt) })
 
   -- a call that may have been opened, and its start
-  opened-ok : (k new : Call) → CallOk k → CallOk new → CallOk (opened_by k new)
-  opened-ok Closed new o p = p
-  opened-ok (Open k d m b s) new o p = o
+  opened-ok : (k : Option Call) (new : Call) → CallOk k → CallOk (Some new) → CallOk (opened_by k new)
+  opened-ok None new o p = p
+  opened-ok (Some k) new o p = o
 
-  opening_ok : (k new : Call) → CallOk new → SendsOk (opening_sends k new)
-  opening_ok Closed new p = call_sends_ok 1 0 (omega arith) (inl (omega arith)) new p
-  opening_ok (Open k d m b s) new p = tt
+  opening_ok : (k : Option Call) (new : Call) → CallOk (Some new) → SendsOk (opening_sends k new)
+  opening_ok None new p = call_sends_ok 1 0 (omega arith) (inl (omega arith)) (Some new) p
+  opening_ok (Some k) new p = tt
 
   press_on-ok : (d : ℕ) (n : Number) → NumberOk n → Ranged (press_on d n c)
   unfolding press_on
   press_on-ok d n g =
-      let own : CallOk (press_call d n) = record { kind-is = inl refl; direction-low = omega arith; direction_high = omega arith; base_ok = refl; number_ok = g } in
+      let own : CallOk (Some (press_call d n)) = record { kind-is = inl refl; direction-low = omega arith; direction_high = omega arith; base_ok = refl; number_ok = g } in
       record {
         next-ok = record { code_ok = ok.code_ok; call_ok = opened-ok c.call (press_call d n) ok.call_ok own; arrival-ok = ok.arrival-ok };
         sends-ok = (tt, each_append SendOk (opening_sends c.call (press_call d n)) _ (opening_ok c.call (press_call d n) own) ((kind_ok c.call ok.call_ok, omega arith), tt));
@@ -213,7 +210,7 @@ module _ (e : ℕ) (c : Channel) (ok : InRange c) where
   mobile_on-ok b n h g =
       let t = mobile-talk _ (kind_ok c.call ok.call_ok) b n h g in
       let new = mobile_call (mobile_recipients c.holder e) b n in
-      let o : CallOk new = mobile-talk _ (inl refl) b n h g in
+      let o : CallOk (Some new) = mobile-talk _ (inl refl) b n h g in
       record {
         next-ok = record { code_ok = ok.code_ok; call_ok = opened-ok c.call new ok.call_ok o; arrival-ok = t };
         sends-ok = (tt, ((t, omega arith), each_append SendOk (opening_sends c.call new) _ (opening_ok c.call new o) ((t, omega arith), tt)));
@@ -226,10 +223,10 @@ module _ (e : ℕ) (c : Channel) (ok : InRange c) where
   ring-ok : (d b : ℕ) (n : Number) → b ≤ 29 → NumberOk n → Ranged (ring d b n c)
   unfolding ring
   ring-ok d b n h g =
-      let o : CallOk (ring_call d b n) = mobile-talk _ (inr refl) b n h g in
+      let o : CallOk (Some (ring_call d b n)) = mobile-talk _ (inr refl) b n h g in
       record {
         next-ok = record { code_ok = ok.code_ok; call_ok = o; arrival-ok = ok.arrival-ok };
-        sends-ok = (tt, (g, call_sends_ok 1 0 (omega arith) (inl (omega arith)) (ring_call d b n) o));
+        sends-ok = (tt, (g, call_sends_ok 1 0 (omega arith) (inl (omega arith)) (Some (ring_call d b n)) o));
       }
 
   unanswered-ok : (reason : ℕ) → ReasonOk reason → Ranged (unanswered reason c)

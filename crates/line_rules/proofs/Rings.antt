@@ -4,13 +4,12 @@ use Prim.Native.Nat.{ℕ}
 use mathlib.Core.Bool.{Bool, true, false, false≢true}
 use mathlib.Core.Path.{◌≡◌, refl, sym, ap, ◌∙◌}
 use lib.Dec.{leb, ltb}
+use Rattle.std.specs.Prelude.{Option, None, Some}
 use Rattle.laws.proofs.Tests.{by_test, either, by_branch}
 use Rattle.telegram.specs.declared.message.Number.{Number}
 use Rattle.channel.specs.State.{is_held, held_by, is_present}
 use Rattle.line_rules.specs.Rules.{Step, happens, capture, capture_at, cut, release, press_on, press_off, mobile_on, mobile_off, ring, unanswered, answered, ring_answer, tick, tick_ring, tick_idle, tick_quiet, tick_release, end_talk, end_call, is_pressed, is_ringing}
 use Rattle.line_rules.specs.Invariant.{Timed, Rung, Idle, Fits}
-use Rattle.channel.specs.declared.state.Party.{Party}
-use Rattle.channel.specs.declared.state.Party.TheVariants.{Nobody, By}
 use Rattle.channel.specs.declared.state.Channel.{Channel}
 use Rattle.channel.specs.declared.state.Event.{Event}
 use Rattle.channel.specs.declared.state.Event.TheVariants.{Capture, Release, Cut, PressOn, PressOff, MobileOn, MobileOff, Ring, Cancel, RingAnswer, Tick, EndTalk, EndCall}
@@ -39,14 +38,14 @@ module _ (c : Channel) (rung : is_ringing c ≡ true → Rung c) where
 abbrev NextRung : Step → Type 0
 NextRung st = is_ringing st.next ≡ true → Rung st.next
 
-nobody : (p : Party) → is_held p ≡ false → p ≡ Nobody
-nobody Nobody e = refl
-nobody (By d) e = clash e refl
+nobody : (p : Option ℕ) → is_held p ≡ false → p ≡ None
+nobody None e = refl
+nobody (Some d) e = clash e refl
 
 module _ (e : ℕ) (c : Channel) (ok : Timed c) (rung : is_ringing c ≡ true → Rung c) where
-  capture_at-rung : (h : Party) (d : ℕ) → NextRung (capture_at h e d c)
-  capture_at-rung Nobody d = by_branch NextRung (is_ringing c) _ _ (λ r. rung) clash
-  capture_at-rung (By h) d = rung
+  capture_at-rung : (h : Option ℕ) (d : ℕ) → NextRung (capture_at h e d c)
+  capture_at-rung None d = by_branch NextRung (is_ringing c) _ _ (λ r. rung) clash
+  capture_at-rung (Some h) d = rung
 
   capture-rung : (d : ℕ) → NextRung (capture e d c)
   unfolding capture
@@ -56,16 +55,16 @@ module _ (e : ℕ) (c : Channel) (ok : Timed c) (rung : is_ringing c ≡ true �
   unfolding cut
   cut-rung h = clash (held-silent c rung h)
 
-  held : (p : Party) (d : ℕ) → held_by d p ≡ true → is_held p ≡ true
-  held Nobody d h = h
-  held (By p) d h = refl
+  held : (p : Option ℕ) (d : ℕ) → held_by d p ≡ true → is_held p ≡ true
+  held None d h = h
+  held (Some p) d h = refl
 
   release-rung : (d : ℕ) → NextRung (release e d c)
   unfolding release
   release-rung d = by_branch NextRung (held_by d c.holder) _ _ (λ h. cut-rung (held c.holder d h)) (λ h. rung)
 
   -- nobody presses on a free channel
-  free-unpressed : c.holder ≡ Nobody → c.presser ≡ Nobody
+  free-unpressed : c.holder ≡ None → c.presser ≡ None
   free-unpressed h = by_test (is_pressed c) (λ p. ok.presser_holds p ∙ h) (nobody c.presser)
 
   ring-rung : (d b : ℕ) (n : Number) → Idle c → NextRung (ring d b n c)

@@ -6,26 +6,20 @@ use mathlib.Core.Path.{◌≡◌, refl, sym, ap, ◌∙◌}
 use native.Mathlib.Omega.{arith}
 use lib.Dec.{leb, ltb}
 use borrow.Author.Tests.{leb-false, lt-ltb}
+use Rattle.std.specs.Prelude.{Option, None, Some}
 use Rattle.laws.proofs.Tests.{either, by_branch}
 use Rattle.telegram.specs.declared.message.Number.{Number}
 use Rattle.channel.specs.State.{free_channel, is_held, held_by, is_present, is_open}
-use Rattle.line_rules.specs.Rules.{Step, happens, capture, capture_at, cut, release, press_on, press_off, mobile_on, mobile_off, ring, unanswered, answered, ring_answer, tick, tick_ring, tick_idle, tick_quiet, tick_release, end_talk, end_call, quiet_time, release_time, is_pressed, is_ringing, opened_by, press_call, mobile_call, mobile_recipients}
+use Rattle.line_rules.specs.Rules.{Step, happens, capture, capture_at, cut, release, press_on, press_off, mobile_on, mobile_off, ring, unanswered, answered, ring_answer, tick, tick_ring, tick_idle, tick_quiet, tick_release, end_talk, end_call, quiet_time, release_time, is_pressed, is_ringing}
 use Rattle.line_rules.specs.Invariant.{Timed, RingCall, Rung, Idle, Fits}
 use Rattle.line_rules.proofs.Rings.{clash, pressed_silent, talk-silent}
-use Rattle.channel.specs.declared.state.Party.{Party}
-use Rattle.channel.specs.declared.state.Party.TheVariants.{Nobody, By}
 use Rattle.channel.specs.declared.state.Call.{Call}
-use Rattle.channel.specs.declared.state.Call.TheVariants.{Closed, Open}
 use Rattle.channel.specs.declared.state.Channel.{Channel}
 use Rattle.channel.specs.declared.state.Event.{Event}
 use Rattle.channel.specs.declared.state.Event.TheVariants.{Capture, Release, Cut, PressOn, PressOff, MobileOn, MobileOff, Ring, Cancel, RingAnswer, Tick, EndTalk, EndCall}
 
 abbrev NextTimed : Step → Type 0
 NextTimed st = Timed st.next
-
-opened : (k new : Call) → is_open new ≡ true → is_open (opened_by k new) ≡ true
-opened Closed new h = h
-opened (Open k d m b s) new h = refl
 
 pub free-timed : (code entitled : ℕ) → Timed (free_channel code entitled)
 free-timed code entitled = record {
@@ -43,8 +37,8 @@ module _ (e : ℕ) (c : Channel) (ok : Timed c) (rung : is_ringing c ≡ true �
   holds : is_pressed c ≡ true → is_held c.holder ≡ true
   holds p = ap is_held (sym (ok.presser_holds p)) ∙ p
 
-  capture_at-timed : (h : Party) (d : ℕ) → c.holder ≡ h → NextTimed (capture_at h e d c)
-  capture_at-timed Nobody d q =
+  capture_at-timed : (h : Option ℕ) (d : ℕ) → c.holder ≡ h → NextTimed (capture_at h e d c)
+  capture_at-timed None d q =
       by_branch NextTimed (is_ringing c) _ _ (λ r. ok)
       (λ r. record {
         quiet_runs = ok.quiet_runs;
@@ -55,7 +49,7 @@ module _ (e : ℕ) (c : Channel) (ok : Timed c) (rung : is_ringing c ≡ true �
         presser_holds = λ p. clash (ap is_held q) (holds p);
         pressed_open = ok.pressed_open;
       })
-  capture_at-timed (By h) d q = ok
+  capture_at-timed (Some h) d q = ok
 
   capture-timed : (d : ℕ) → NextTimed (capture e d c)
   unfolding capture
@@ -77,19 +71,17 @@ module _ (e : ℕ) (c : Channel) (ok : Timed c) (rung : is_ringing c ≡ true �
   unfolding release
   release-timed d = by_branch NextTimed (held_by d c.holder) _ _ (λ e. cut-timed) (λ e. ok)
 
-  press_on-timed : (d : ℕ) (n : Number) → c.holder ≡ By d → NextTimed (press_on d n c)
+  press_on-timed : (d : ℕ) (n : Number) → c.holder ≡ Some d → NextTimed (press_on d n c)
   unfolding press_on
-  press_on-timed d n h =
-      let o = opened c.call (press_call d n) refl in
-      record {
-        quiet_runs = sym (rw o refl);
-        release-runs = sym (ap is_held h);
-        quiet_most = omega arith;
-        release-most = omega arith;
-        ring-most = ok.ring-most;
-        presser_holds = λ p. sym h;
-        pressed_open = λ p. o;
-      }
+  press_on-timed d n h = record {
+    quiet_runs = refl;
+    release-runs = sym (ap is_held h);
+    quiet_most = omega arith;
+    release-most = omega arith;
+    ring-most = ok.ring-most;
+    presser_holds = λ p. sym h;
+    pressed_open = λ p. refl;
+  }
 
   let_go : (a : Bool) → is_pressed c ≡ true → is_present c.arrival ≡ a
       → ltb 0 (cond a c.quiet quiet_time) ≡ (is_open c.call && (true && (not a && not (is_ringing c))))
@@ -122,17 +114,15 @@ module _ (e : ℕ) (c : Channel) (ok : Timed c) (rung : is_ringing c ≡ true �
 
   mobile_on-timed : (b : ℕ) (n : Number) → NextTimed (mobile_on e b n c)
   unfolding mobile_on
-  mobile_on-timed b n =
-      let o = opened c.call (mobile_call (mobile_recipients c.holder e) b n) refl in
-      record {
-        quiet_runs = sym (simp (o, and-false));
-        release-runs = reset (is_held c.holder) refl;
-        quiet_most = omega arith;
-        release-most = release-low (is_held c.holder);
-        ring-most = ok.ring-most;
-        presser_holds = ok.presser_holds;
-        pressed_open = λ p. o;
-      }
+  mobile_on-timed b n = record {
+    quiet_runs = sym (and-false _);
+    release-runs = reset (is_held c.holder) refl;
+    quiet_most = omega arith;
+    release-most = release-low (is_held c.holder);
+    ring-most = ok.ring-most;
+    presser_holds = ok.presser_holds;
+    pressed_open = λ p. refl;
+  }
 
   after-talk : (q : ℕ) → ltb 0 q ≡ true → (k p : Bool) → is_open c.call ≡ k → is_pressed c ≡ p
       → ltb 0 (cond k (cond p c.quiet q) c.quiet) ≡ (k && (not p && true))
@@ -183,9 +173,9 @@ module _ (e : ℕ) (c : Channel) (ok : Timed c) (rung : is_ringing c ≡ true �
     pressed_open = clash (unpressed (rung r));
   }
 
-  rung_open : (k : Call) → RingCall k → is_open k ≡ true
-  rung_open Closed h = absurd h
-  rung_open (Open k d m b s) h = refl
+  rung_open : (k : Option Call) → RingCall k → is_open k ≡ true
+  rung_open None h = absurd h
+  rung_open (Some k) h = refl
 
   answered-timed : (d : ℕ) → is_ringing c ≡ true → NextTimed (answered e d c)
   unfolding answered

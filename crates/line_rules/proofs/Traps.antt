@@ -7,6 +7,7 @@ use mathlib.Core.Logic.{inl, inr}
 use mathlib.Core.Path.{◌≡◌, refl, ap, ◌∙◌}
 use lib.Dec.{ltb, leb}
 use lib.ListN.{replicate}
+use Rattle.std.specs.Prelude.{Option, None, Some}
 use Rattle.laws.specs.Each.{Each}
 use Rattle.laws.proofs.Each.{each_append}
 use Rattle.laws.proofs.Tests.{either}
@@ -14,24 +15,20 @@ use Rattle.telegram.specs.declared.message.Number.{Number}
 use Rattle.channel.specs.State.{only, is_held, held_by, holder_place, is_present, is_open}
 use Rattle.line_rules.specs.Rules.{Step, to, sent_if, call_sends, opening_sends, end_of, press_off_sends, mobile_off_sends, ring_off_sends, freed_sends, capture, capture_at, cut, release, press_on, press_call, press_off, mobile_on, mobile_recipients, mobile_call, mobile_off, ring, unanswered, answered, ring_answer, tick, tick_ring, tick_idle, tick_quiet, tick_release, is_pressed, is_ringing, end_talk, end_call, happens}
 use Rattle.line_rules.specs.Promises.{GoesTo, OnToTheHolder, OffToTheTold, ToldAreKept, IsAbout, Concerned, AboutTheHolder, NumberForTheHolder, ArrivalOutlivesACut, OneTimerAtATime, TenAndAHundredAndThirty, quietly, by_ticks, RingToTheCalled, RingEndToTheCalled, FourteenAndTheFifteenth, ring_ticks, CancelIsTheSame, HandoverCancels}
-use Rattle.channel.specs.declared.state.Party.{Party}
-use Rattle.channel.specs.declared.state.Party.TheVariants.{Nobody, By}
 use Rattle.channel.specs.declared.state.Call.{Call}
-use Rattle.channel.specs.declared.state.Call.TheVariants.{Closed, Open}
 use Rattle.channel.specs.declared.state.Send.{Send}
 use Rattle.channel.specs.declared.state.Arrival.{Arrival}
-use Rattle.channel.specs.declared.state.Arrival.TheVariants.{Absent, Present}
 use Rattle.channel.specs.declared.state.Channel.{Channel}
 use Rattle.channel.specs.declared.state.Event.TheVariants.{Capture, Release, Cut, PressOn, PressOff, MobileOn, MobileOff, Ring, Cancel, RingAnswer, Tick, EndTalk, EndCall}
 use Rattle.channel.specs.declared.state.Notice.TheVariants.{CaptureState}
 
 pub off_to_the_told : OffToTheTold
 unfolding mobile_off
-off_to_the_told c k m b n e = rw e
+off_to_the_told c a e = rw e
 
-opening_to : (k : Call) (m b : ℕ) (n : Number) → Each (GoesTo m) (opening_sends k (mobile_call m b n))
-opening_to Closed m b n = (refl, tt)
-opening_to (Open k d m' b' s) m b n = tt
+opening_to : (k : Option Call) (m b : ℕ) (n : Number) → Each (GoesTo m) (opening_sends k (mobile_call m b n))
+opening_to None m b n = (refl, tt)
+opening_to (Some k) m b n = tt
 
 pub on_to_the_holder : OnToTheHolder
 unfolding mobile_on
@@ -56,21 +53,21 @@ module _ (P : ℕ → Type 0) where
   abbrev Tells : Step → Type 0
   Tells st = Said st.sends
 
-  about_call : (t r : ℕ) (k : Call) → Said (call_sends t r k)
-  about_call t r Closed = tt
-  about_call t r (Open k w m b s) = (tt, tt)
+  about_call : (t r : ℕ) (k : Option Call) → Said (call_sends t r k)
+  about_call t r None = tt
+  about_call t r (Some k) = (tt, tt)
 
-  about_opening : (k new : Call) → Said (opening_sends k new)
-  about_opening Closed new = about_call 1 0 new
-  about_opening (Open k w m b s) new = tt
+  about_opening : (k : Option Call) (new : Call) → Said (opening_sends k new)
+  about_opening None new = about_call 1 0 (Some new)
+  about_opening (Some k) new = tt
 
-  about_press_off : (p : Party) (k : Call) → Said (press_off_sends p k)
-  about_press_off Nobody k = tt
-  about_press_off (By h) k = (tt, (tt, tt))
+  about_press_off : (p : Option ℕ) (k : Option Call) → Said (press_off_sends p k)
+  about_press_off None k = tt
+  about_press_off (Some h) k = (tt, (tt, tt))
 
-  about_off : (a : Arrival) → Said (mobile_off_sends a)
-  about_off Absent = tt
-  about_off (Present k m b n) = (tt, (tt, (tt, tt)))
+  about_off : (a : Option Arrival) → Said (mobile_off_sends a)
+  about_off None = tt
+  about_off (Some a) = (tt, (tt, (tt, tt)))
 
   about_press_on : (d : ℕ) (n : Number) (c : Channel) → Tells (press_on d n c)
   unfolding press_on
@@ -82,9 +79,9 @@ module _ (P : ℕ → Type 0) where
       let new = mobile_call (mobile_recipients c.holder e) b n in
       (tt, (tt, each_append (IsAbout P) (opening_sends c.call new) _ (about_opening c.call new) (tt, tt)))
 
-  about_ring_off : (k : Call) → Said (ring_off_sends k)
-  about_ring_off Closed = tt
-  about_ring_off (Open k w m b s) = (tt, (tt, tt))
+  about_ring_off : (k : Option Call) → Said (ring_off_sends k)
+  about_ring_off None = tt
+  about_ring_off (Some k) = (tt, (tt, tt))
 
   about_unanswered : (r : ℕ) (c : Channel) → Tells (unanswered r c)
   unfolding unanswered
@@ -122,9 +119,9 @@ module _ (P : ℕ → Type 0) where
         each_append (IsAbout P) (sent_if (is_ringing c) (ring_off_sends c.call)) _ (either Said (is_ringing c) _ _ (about_ring_off c.call) tt)
         (each_append (IsAbout P) (end_of 2 c.call) _ (about_call 0 2 c.call) (either Said (is_held c.holder) _ _ (holder, tt) tt))
 
-about_capture : (h : Party) (e d : ℕ) (c : Channel) → Tells (Concerned (Capture d) c) (capture_at h e d c)
-about_capture Nobody e d c = either (Tells (Concerned (Capture d) c)) (is_ringing c) _ _ (tt, tt) (tt, (inr (inl refl), tt))
-about_capture (By h) e d c = (tt, tt)
+about_capture : (h : Option ℕ) (e d : ℕ) (c : Channel) → Tells (Concerned (Capture d) c) (capture_at h e d c)
+about_capture None e d c = either (Tells (Concerned (Capture d) c)) (is_ringing c) _ _ (tt, tt) (tt, (inr (inl refl), tt))
+about_capture (Some h) e d c = (tt, tt)
 
 about_answer : (e d : ℕ) (matched : Bool) (c : Channel) → Tells (Concerned (RingAnswer d matched) c) (ring_answer e d matched c)
 unfolding ring_answer answered
@@ -176,12 +173,12 @@ one_timer_at_a_time e c q =
 -- ---- 130 ticks
 
 -- 130 ticks of a held channel with an open call, no press and no arrival
-ticking : (e code entitled d kind dir m base : ℕ) (n : Number)
-    → by_ticks 130 e (quietly code entitled d (Open kind dir m base n))
+ticking : (e code entitled d : ℕ) (k : Call)
+    → by_ticks 130 e (quietly code entitled d (Some k))
     ≡ replicate 9 ([], (true, true))
-    ++ ((end_of 3 (Open kind dir m base n), (false, true)) ∷ replicate 119 ([], (false, true)) ++ ((to e (CaptureState d 0) ∷ [], (false, false)) ∷ []))
+    ++ ((end_of 3 (Some k), (false, true)) ∷ replicate 119 ([], (false, true)) ++ ((to e (CaptureState d 0) ∷ [], (false, false)) ∷ []))
 unfolding quietly by_ticks tick tick_idle tick_quiet tick_release
-ticking e code entitled d kind dir m base n = refl
+ticking e code entitled d k = refl
 
 pub ten_and_a_hundred_and_thirty : TenAndAHundredAndThirty
 unfolding quietly press_off
@@ -189,12 +186,12 @@ ten_and_a_hundred_and_thirty e c d h a o r =
     let q : (press_off c).next ≡ quietly c.code c.entitled d c.call = rw (h, a, r) in
     ap (by_ticks 130 e) q ∙ go c.call o ∙ rw h
   where
-    go : (k : Call) → is_open k ≡ true
+    go : (k : Option Call) → is_open k ≡ true
         → by_ticks 130 e (quietly c.code c.entitled d k)
         ≡ replicate 9 ([], (true, true))
         ++ ((end_of 3 k, (false, true)) ∷ replicate 119 ([], (false, true)) ++ ((to e (CaptureState d 0) ∷ [], (false, false)) ∷ []))
-    go Closed i = absurd (false≢true i)
-    go (Open kind dir m base n) i = ticking e c.code c.entitled d kind dir m base n
+    go None i = absurd (false≢true i)
+    go (Some k) i = ticking e c.code c.entitled d k
 
 -- ---- rings
 
@@ -204,7 +201,7 @@ ring_to_the_called d b n c = ((refl, (refl, (refl, tt))), refl)
 
 pub ring_end_to_the_called : RingEndToTheCalled
 unfolding unanswered
-ring_end_to_the_called reason c k d m b n e = rw e (refl, (refl, (refl, tt)))
+ring_end_to_the_called reason c k e = rw e (refl, (refl, (refl, tt)))
 
 pub fourteen_and_the_fifteenth : FourteenAndTheFifteenth
 unfolding ring ring_ticks tick tick_ring unanswered

@@ -7,6 +7,7 @@ use mathlib.Core.Path.{◌≡◌, refl, sym, ap}
 use native.Mathlib.Omega.{arith}
 use lib.Dec.{eqb, leb, ltb}
 use borrow.Author.Tests.{ne_eqb, lt-ltb, leb-false}
+use Rattle.std.specs.Prelude.{Option, None, Some}
 use Rattle.laws.specs.Table.{pick}
 use Rattle.laws.proofs.Tests.{either, by_branch, cond_of}
 use Rattle.telegram.specs.declared.message.Number.{Number}
@@ -16,12 +17,8 @@ use Rattle.line_rules.specs.Invariant.{Rung, Idle}
 use Rattle.line_rules.specs.Turns.{orders_to, order_of, matter_of, lasting, ByTurns}
 use Rattle.line_rules.specs.Promises.{GoesByTurns, HandoverEnds}
 use Rattle.line_rules.proofs.Rings.{held-silent, talk-silent}
-use Rattle.channel.specs.declared.state.Party.{Party}
-use Rattle.channel.specs.declared.state.Party.TheVariants.{Nobody, By}
 use Rattle.channel.specs.declared.state.Call.{Call}
-use Rattle.channel.specs.declared.state.Call.TheVariants.{Closed, Open}
 use Rattle.channel.specs.declared.state.Arrival.{Arrival}
-use Rattle.channel.specs.declared.state.Arrival.TheVariants.{Absent, Present}
 use Rattle.channel.specs.declared.state.Channel.{Channel}
 use Rattle.channel.specs.declared.state.Event.TheVariants.{Capture, Release, Cut, PressOn, PressOff, MobileOn, MobileOff, Ring, Cancel, RingAnswer, Tick, EndTalk, EndCall}
 use Rattle.channel.specs.declared.state.Notice.TheVariants.{CaptureReply, CaptureState, AnswerReply}
@@ -93,48 +90,48 @@ module _ (B : ℕ) where
 
   -- ---- what ends
 
-  press-off : (c : Channel) (p : Party) (k : Call) → Turns (with_presser p c) (press_off_sends p k) (with_presser Nobody c)
+  press-off : (c : Channel) (p : Option ℕ) (k : Option Call) → Turns (with_presser p c) (press_off_sends p k) (with_presser None c)
   unfolding orders_to pick
-  press-off c Nobody k = nothing (with_presser Nobody c)
-  press-off c (By d) k = let y = ended (is_in B (only d)) in by_matter _ refl y y refl refl refl refl
+  press-off c None k = nothing (with_presser None c)
+  press-off c (Some d) k = let y = ended (is_in B (only d)) in by_matter _ refl y y refl refl refl refl
 
   -- while a mobile talks none rings, and the incoming contact is on for it alone
-  mobile-off : (c : Channel) (a : Arrival) → (is_present a ≡ true → is_ringing c ≡ false)
-      → Turns (with_arrival a c) (mobile_off_sends a) (with_arrival Absent c)
+  mobile-off : (c : Channel) (a : Option Arrival) → (is_present a ≡ true → is_ringing c ≡ false)
+      → Turns (with_arrival a c) (mobile_off_sends a) (with_arrival None c)
   unfolding orders_to pick
-  mobile-off c Absent q = nothing (with_arrival Absent c)
-  mobile-off c (Present k m b n) q = let y = ended (is_in B m) in by_matter _ refl refl refl (simp (q refl, or-false) y) y y refl
+  mobile-off c None q = nothing (with_arrival None c)
+  mobile-off c (Some a) q = let y = ended (is_in B a.recipients) in by_matter _ refl refl refl (simp (q refl, or-false) y) y y refl
 
   -- a call that is no ring
-  call_end : (r : ℕ) (c : Channel) (k : Call) → is_ringing c ≡ false → Turns (with_call k c) (end_of r k) (with_call Closed c)
+  call_end : (r : ℕ) (c : Channel) (k : Option Call) → is_ringing c ≡ false → Turns (with_call k c) (end_of r k) (with_call None c)
   unfolding orders_to pick
-  call_end r c Closed q = nothing (with_call Closed c)
-  call_end r c (Open k d m b s) q = by_matter _ refl refl refl (rw q) refl refl (ended (is_in B m))
+  call_end r c None q = nothing (with_call None c)
+  call_end r c (Some k) q = by_matter _ refl refl refl (rw q) refl refl (ended (is_in B k.recipients))
 
   -- a ring, if there is one; its call goes on
-  ring-off : (c : Channel) (t : Bool) (k : Call) → is_ringing c ≡ t → c.arrival ≡ Absent
+  ring-off : (c : Channel) (t : Bool) (k : Option Call) → is_ringing c ≡ t → c.arrival ≡ None
       → Turns (with_call k c) (sent_if t (ring_off_sends k)) (with_ring 0 (with_call k c))
   unfolding orders_to pick
   ring-off c false k q a = by_matter _ refl refl refl (rw q) refl refl refl
-  ring-off c true Closed q a = by_matter _ refl refl refl (rw q) refl refl refl
-  ring-off c true (Open k d m b s) q a = by_matter _ refl refl refl (rw (a, q) (ended (is_in B m))) refl refl refl
+  ring-off c true None q a = by_matter _ refl refl refl (rw q) refl refl refl
+  ring-off c true (Some k) q a = by_matter _ refl refl refl (rw (a, q) (ended (is_in B k.recipients))) refl refl refl
 
   -- ---- what begins
 
-  press-on : (d : ℕ) (n : Number) (c : Channel) (p : Party) (k : Call) → is_held p ≡ false → is_ringing c ≡ false
+  press-on : (d : ℕ) (n : Number) (c : Channel) (p : Option ℕ) (k : Option Call) → is_held p ≡ false → is_ringing c ≡ false
       → Goes (with_presser p (with_call k c)) (press_on d n (with_presser p (with_call k c)))
   unfolding orders_to pick press_on
-  press-on d n c (By h) k o q = absurd (true≢false o)
-  press-on d n c Nobody Closed o q = let y = started (is_in B (only d)) in by_matter _ refl y y (rw q) refl refl y
-  press-on d n c Nobody (Open k w m b s) o q = let y = started (is_in B (only d)) in by_matter _ refl y y refl refl refl refl
+  press-on d n c (Some h) k o q = absurd (true≢false o)
+  press-on d n c None None o q = let y = started (is_in B (only d)) in by_matter _ refl y y (rw q) refl refl y
+  press-on d n c None (Some k) o q = let y = started (is_in B (only d)) in by_matter _ refl y y refl refl refl refl
 
-  mobile-on : (e b : ℕ) (n : Number) (c : Channel) (a : Arrival) (k : Call) → is_present a ≡ false → is_ringing c ≡ false
+  mobile-on : (e b : ℕ) (n : Number) (c : Channel) (a : Option Arrival) (k : Option Call) → is_present a ≡ false → is_ringing c ≡ false
       → Goes (with_arrival a (with_call k c)) (mobile_on e b n (with_arrival a (with_call k c)))
   unfolding orders_to pick mobile_on
-  mobile-on e b n c (Present k' m' b' n') k o q = absurd (true≢false o)
-  mobile-on e b n c Absent Closed o q =
+  mobile-on e b n c (Some a) k o q = absurd (true≢false o)
+  mobile-on e b n c None None o q =
       let y = started (is_in B (mobile_recipients c.holder e)) in by_matter _ refl refl refl (simp (q, or-false) y) y y y
-  mobile-on e b n c Absent (Open k w m b' s) o q =
+  mobile-on e b n c None (Some k) o q =
       let y = started (is_in B (mobile_recipients c.holder e)) in by_matter _ refl refl refl (simp (q, or-false) y) y y refl
 
   ring-on : (d b : ℕ) (n : Number) (c : Channel) → Idle c → Goes c (ring d b n c)
@@ -148,17 +145,17 @@ module _ (B : ℕ) where
   module _ (e : ℕ) (c : Channel) (rung : is_ringing c ≡ true → Rung c) where
     -- the channel after a press off
     abbrev let_go : Channel
-    let_go = with_presser Nobody c
+    let_go = with_presser None c
 
-    capture-turns : (h : Party) (d : ℕ) → Goes c (capture_at h e d c)
-    capture-turns Nobody d =
+    capture-turns : (h : Option ℕ) (d : ℕ) → Goes c (capture_at h e d c)
+    capture-turns None d =
         either (Goes c) (is_ringing c) _ _ (reply c (only d) _) (join c c c _ _ (reply c (only d) _) (state c e _ _))
-    capture-turns (By h) d = reply c (only d) _
+    capture-turns (Some h) d = reply c (only d) _
 
     cut-turns : is_held c.holder ≡ true → Goes c (cut e c)
     unfolding cut
     cut-turns h =
-        let over : Channel = with_call Closed let_go in
+        let over : Channel = with_call None let_go in
         join c let_go over (press_off_sends c.presser c.call) _ (press-off c c.presser c.call)
         (join let_go over over (end_of 1 c.call) _ (call_end 1 let_go c.call (held-silent c rung h)) (state over e _ _))
 
@@ -169,9 +166,9 @@ module _ (B : ℕ) where
         (λ h. join c c (cut e c).next (to (only d) (CaptureReply 0) ∷ []) _ (reply c (only d) _) (cut-turns (by_held c.holder h)))
         (λ h. reply c (only d) _)
       where
-        by_held : (p : Party) → held_by d p ≡ true → is_held p ≡ true
-        by_held Nobody h = h
-        by_held (By h') h = refl
+        by_held : (p : Option ℕ) → held_by d p ≡ true → is_held p ≡ true
+        by_held None h = h
+        by_held (Some h') h = refl
 
     unanswered-turns : (r : ℕ) → is_ringing c ≡ true → Goes c (unanswered r c)
     unfolding unanswered
@@ -208,7 +205,7 @@ module _ (B : ℕ) where
     handover_turns : Turns c ((end_talk c).sends ++ (end_call e c).sends) (freed c)
     unfolding end_talk end_call
     handover_turns =
-        let still : Channel = with_arrival Absent let_go in
+        let still : Channel = with_arrival None let_go in
         let silent : Channel = with_ring 0 still in
         join c still (freed c) (end_talk c).sends _
         (join c let_go still (press_off_sends c.presser c.call) _ (press-off c c.presser c.call) (mobile-off let_go c.arrival (talk-silent c rung)))

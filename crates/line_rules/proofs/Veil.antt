@@ -4,17 +4,14 @@ use Prim.Native.Nat.{ℕ}
 use mathlib.Core.List.{List, [], map-append}
 use mathlib.Core.Bool.{Bool, true, false}
 use mathlib.Core.Path.{◌≡◌, refl, ap}
+use Rattle.std.specs.Prelude.{Option, None, Some}
 use Rattle.laws.proofs.Tests.{cond_of}
 use Rattle.telegram.specs.declared.message.Number.{Number}
 use Rattle.channel.specs.State.{only, is_in, is_present, is_open}
 use Rattle.line_rules.specs.Rules.{Step, step, opened_by, opening_sends, end_of, kind_of, press_off_sends, mobile_off_sends, ring_off_sends, capture_at, capture, cut, release, press_on, press_off, mobile_recipients, mobile_call, mobile_on, mobile_off, ring, unanswered, answered, ring_answer, tick_quiet, tick_release, tick_idle, tick_ring, tick, end_talk, end_call, happens}
 use Rattle.line_rules.specs.Veil.{veil, hide_call, hide_arrival, hide, hide_send, hide_sends, hide_step}
-use Rattle.channel.specs.declared.state.Party.{Party}
-use Rattle.channel.specs.declared.state.Party.TheVariants.{Nobody, By}
 use Rattle.channel.specs.declared.state.Call.{Call}
-use Rattle.channel.specs.declared.state.Call.TheVariants.{Closed, Open}
 use Rattle.channel.specs.declared.state.Arrival.{Arrival}
-use Rattle.channel.specs.declared.state.Arrival.TheVariants.{Absent, Present}
 use Rattle.channel.specs.declared.state.Channel.{Channel}
 use Rattle.channel.specs.declared.state.Event.{Event}
 use Rattle.channel.specs.declared.state.Event.TheVariants.{Capture, Release, Cut, PressOn, PressOff, MobileOn, MobileOff, Ring, Cancel, RingAnswer, Tick, EndTalk, EndCall}
@@ -28,61 +25,61 @@ veil_twice false n = refl
 module _ (B : ℕ) where
   -- ---- each choice goes by what is left of a call or an arrival
 
-  call_twice : (k : Call) → hide_call B (hide_call B k) ≡ hide_call B k
-  call_twice Closed = refl
-  call_twice (Open k d m b s) = ap (Open k d m b) (veil_twice (is_in B m) s)
+  call_twice : (k : Option Call) → hide_call B (hide_call B k) ≡ hide_call B k
+  call_twice None = refl
+  call_twice (Some k) = rw (veil_twice (is_in B k.recipients) k.source) refl
 
-  arrival_twice : (a : Arrival) → hide_arrival B (hide_arrival B a) ≡ hide_arrival B a
-  arrival_twice Absent = refl
-  arrival_twice (Present k m b n) = ap (Present k m b) (veil_twice (is_in B m) n)
+  arrival_twice : (a : Option Arrival) → hide_arrival B (hide_arrival B a) ≡ hide_arrival B a
+  arrival_twice None = refl
+  arrival_twice (Some a) = rw (veil_twice (is_in B a.recipients) a.number) refl
 
   pub hide_twice : (c : Channel) → hide B (hide B c) ≡ hide B c
   hide_twice c = simp (call_twice, arrival_twice) refl
 
-  pub open_hide : (k : Call) → is_open (hide_call B k) ≡ is_open k
-  open_hide Closed = refl
-  open_hide (Open k d m b s) = refl
+  pub open_hide : (k : Option Call) → is_open (hide_call B k) ≡ is_open k
+  open_hide None = refl
+  open_hide (Some k) = refl
 
-  kind-hide : (k : Call) → kind_of (hide_call B k) ≡ kind_of k
-  kind-hide Closed = refl
-  kind-hide (Open k d m b s) = refl
+  kind-hide : (k : Option Call) → kind_of (hide_call B k) ≡ kind_of k
+  kind-hide None = refl
+  kind-hide (Some k) = refl
 
-  press_off_hide : (p : Party) (k : Call) → press_off_sends p (hide_call B k) ≡ press_off_sends p k
-  press_off_hide Nobody k = refl
-  press_off_hide (By d) k = rw (kind-hide k)
+  press_off_hide : (p : Option ℕ) (k : Option Call) → press_off_sends p (hide_call B k) ≡ press_off_sends p k
+  press_off_hide None k = refl
+  press_off_hide (Some d) k = rw (kind-hide k)
 
-  pub present_hide : (a : Arrival) → is_present (hide_arrival B a) ≡ is_present a
-  present_hide Absent = refl
-  present_hide (Present k m b n) = refl
+  pub present_hide : (a : Option Arrival) → is_present (hide_arrival B a) ≡ is_present a
+  present_hide None = refl
+  present_hide (Some a) = refl
 
-  opened-hide : (k new : Call) → hide_call B (opened_by (hide_call B k) new) ≡ hide_call B (opened_by k new)
-  opened-hide Closed new = refl
-  opened-hide (Open k d m b s) new = call_twice (Open k d m b s)
+  opened-hide : (k : Option Call) (new : Call) → hide_call B (opened_by (hide_call B k) new) ≡ hide_call B (opened_by k new)
+  opened-hide None new = refl
+  opened-hide (Some k) new = call_twice (Some k)
 
-  opening_hide : (k new : Call) → opening_sends (hide_call B k) new ≡ opening_sends k new
-  opening_hide Closed new = refl
-  opening_hide (Open k d m b s) new = refl
+  opening_hide : (k : Option Call) (new : Call) → opening_sends (hide_call B k) new ≡ opening_sends k new
+  opening_hide None new = refl
+  opening_hide (Some k) new = refl
 
-  end_hide : (r : ℕ) (k : Call) → hide_sends B (end_of r (hide_call B k)) ≡ hide_sends B (end_of r k)
-  end_hide r Closed = refl
-  end_hide r (Open k d m b s) = simp veil_twice refl
+  end_hide : (r : ℕ) (k : Option Call) → hide_sends B (end_of r (hide_call B k)) ≡ hide_sends B (end_of r k)
+  end_hide r None = refl
+  end_hide r (Some k) = simp veil_twice refl
 
-  off-hide : (a : Arrival) → hide_sends B (mobile_off_sends (hide_arrival B a)) ≡ hide_sends B (mobile_off_sends a)
-  off-hide Absent = refl
-  off-hide (Present k m b n) = simp veil_twice refl
+  off-hide : (a : Option Arrival) → hide_sends B (mobile_off_sends (hide_arrival B a)) ≡ hide_sends B (mobile_off_sends a)
+  off-hide None = refl
+  off-hide (Some a) = simp veil_twice refl
 
-  ring_off_hide : (k : Call) → ring_off_sends (hide_call B k) ≡ ring_off_sends k
-  ring_off_hide Closed = refl
-  ring_off_hide (Open k d m b s) = refl
+  ring_off_hide : (k : Option Call) → ring_off_sends (hide_call B k) ≡ ring_off_sends k
+  ring_off_hide None = refl
+  ring_off_hide (Some k) = refl
 
   -- ---- the rules, one by one
 
   still-hide : (c : Channel) (ss : List Send) → hide_step B (step (hide B c) ss) ≡ hide_step B (step c ss)
   still-hide c ss = simp (call_twice, arrival_twice) refl
 
-  capture_at-hide : (h : Party) (e : ℕ) (d : ℕ) (c : Channel) → hide_step B (capture_at h e d (hide B c)) ≡ hide_step B (capture_at h e d c)
-  capture_at-hide Nobody e d c = simp (cond_of (hide_step B), call_twice, arrival_twice) refl
-  capture_at-hide (By h) e d c = simp (call_twice, arrival_twice) refl
+  capture_at-hide : (h : Option ℕ) (e : ℕ) (d : ℕ) (c : Channel) → hide_step B (capture_at h e d (hide B c)) ≡ hide_step B (capture_at h e d c)
+  capture_at-hide None e d c = simp (cond_of (hide_step B), call_twice, arrival_twice) refl
+  capture_at-hide (Some h) e d c = simp (call_twice, arrival_twice) refl
 
   capture-hide : (e : ℕ) (d : ℕ) (c : Channel) → hide_step B (capture e d (hide B c)) ≡ hide_step B (capture e d c)
   unfolding capture
@@ -179,15 +176,15 @@ module _ (B : ℕ) where
 
   -- ---- a mobile's number is hidden from B where its recipients lack B
 
-  opened-number : (k : Call) (m b : ℕ) (n n' : Number) → is_in B m ≡ false → hide_call B (opened_by k (mobile_call m b n)) ≡ hide_call B (opened_by k (mobile_call m b n'))
+  opened-number : (k : Option Call) (m b : ℕ) (n n' : Number) → is_in B m ≡ false → hide_call B (opened_by k (mobile_call m b n)) ≡ hide_call B (opened_by k (mobile_call m b n'))
   unfolding veil
-  opened-number Closed m b n n' h = rw h refl
-  opened-number (Open k d m' b' s) m b n n' h = refl
+  opened-number None m b n n' h = rw h refl
+  opened-number (Some k) m b n n' h = refl
 
-  opening_number : (k : Call) (m b : ℕ) (n n' : Number) → is_in B m ≡ false → hide_sends B (opening_sends k (mobile_call m b n)) ≡ hide_sends B (opening_sends k (mobile_call m b n'))
+  opening_number : (k : Option Call) (m b : ℕ) (n n' : Number) → is_in B m ≡ false → hide_sends B (opening_sends k (mobile_call m b n)) ≡ hide_sends B (opening_sends k (mobile_call m b n'))
   unfolding veil
-  opening_number Closed m b n n' h = rw h refl
-  opening_number (Open k d m' b' s) m b n n' h = refl
+  opening_number None m b n n' h = rw h refl
+  opening_number (Some k) m b n n' h = refl
 
   pub number_hidden : (e : ℕ) (b : ℕ) (n n' : Number) (c : Channel) → is_in B (mobile_recipients c.holder e) ≡ false
       → hide_step B (mobile_on e b n c) ≡ hide_step B (mobile_on e b n' c)

@@ -1,17 +1,13 @@
 -- Who is told of a channel, and which numbers: what holds of a channel among the desks of its set, in every state that a feed from
 -- a new set brings about.
-use Rattle.std.specs.Prelude.{ℕ, List, [], ◌∷◌, true, ◌⊎◌, ◌≡◌}
+use Rattle.std.specs.Prelude.{ℕ, List, [], ◌∷◌, true, ◌⊎◌, ◌≡◌, Option, None, Some}
 use Rattle.laws.specs.Each.{Each}
 use Rattle.telegram.specs.Telegram.{num}
 use Rattle.telegram.specs.declared.message.Number.{Number}
 use Rattle.telegram.specs.declared.message.Message.TheVariants.{TimeNotice, RingAnswer as Answers, OperationAnswer, TimeRequest, BaseArrival as Arrived, RingNotice as Rings, AnswerReply as Taken, OperationRequest, Call as CallMade, CallerNotice as Talks, CallResult as Result, CaptureRequest, CaptureReply as Reply, CaptureState as State}
 use Rattle.channel.specs.State.{is_in}
-use Rattle.channel.specs.declared.state.Party.{Party}
-use Rattle.channel.specs.declared.state.Party.TheVariants.{Nobody, By}
 use Rattle.channel.specs.declared.state.Call.{Call}
-use Rattle.channel.specs.declared.state.Call.TheVariants.{Closed, Open}
 use Rattle.channel.specs.declared.state.Arrival.{Arrival}
-use Rattle.channel.specs.declared.state.Arrival.TheVariants.{Absent, Present}
 use Rattle.channel.specs.declared.state.Channel.{Channel}
 use Rattle.channel.specs.declared.state.Event.{Event}
 use Rattle.channel.specs.declared.state.Event.TheVariants.{Capture, Release, Cut, PressOn, PressOff, MobileOn, MobileOff, Ring, Cancel, RingAnswer, Tick, EndTalk, EndCall}
@@ -63,17 +59,17 @@ module _ (w : Around) where
     pub listen : AllListen c m
     pub learn : (d : ℕ) → is_in d m ≡ true → ForDesk d n
 
-  abbrev pub HolderListens : Channel → Party → Type 0
-  HolderListens c Nobody = Unit {0}
-  HolderListens c (By d) = Listens c d
+  abbrev pub HolderListens : Channel → Option ℕ → Type 0
+  HolderListens c None = Unit {0}
+  HolderListens c (Some d) = Listens c d
 
-  abbrev pub CallTold : Channel → Call → Type 0
-  CallTold c Closed = Unit {0}
-  CallTold c (Open k d m b s) = Told c m s
+  abbrev pub CallTold : Channel → Option Call → Type 0
+  CallTold c None = Unit {0}
+  CallTold c (Some k) = Told c k.recipients k.source
 
-  abbrev pub ArrivalTold : Channel → Arrival → Type 0
-  ArrivalTold c Absent = Unit {0}
-  ArrivalTold c (Present k m b n) = Told c m n
+  abbrev pub ArrivalTold : Channel → Option Arrival → Type 0
+  ArrivalTold c None = Unit {0}
+  ArrivalTold c (Some a) = Told c a.recipients a.number
 
   pub record Among (c : Channel) : Type 0 where
     pub holder_listens : HolderListens c c.holder
@@ -98,7 +94,7 @@ module _ (w : Around) where
 
   -- ---- what is sent
 
-  -- a send about channel c: its recipients listen, and each number in it, as contentFor puts it, is for its desk
+  -- a send about channel c: its recipients listen, and each number in it, as content_for puts it, is for its desk
   abbrev pub NoticeTold : Channel → ℕ → Notice → Type 0
   NoticeTold c m (PressAnswer on) = AllListen c m
   NoticeTold c m (Incoming on) = AllListen c m

@@ -1,15 +1,12 @@
 -- What holds of a channel in every state that a feed from a new set brings about, and what it sends then.
-use Rattle.std.specs.Prelude.{ℕ, ◌^◌, ◌≤◌, ◌<◌, List, true, false, ◌||◌, ◌&&◌, not, ◌⊎◌, ◌≡◌, leb, ltb}
+use Rattle.std.specs.Prelude.{ℕ, ◌^◌, ◌≤◌, ◌<◌, List, true, false, ◌||◌, ◌&&◌, not, ◌⊎◌, ◌≡◌, leb, ltb, Option, None, Some}
 use Rattle.laws.specs.Each.{Each}
 use Rattle.fields.specs.Fields.{between}
 use Rattle.telegram.specs.Telegram.{in_range}
 use Rattle.telegram.specs.declared.message.Number.{Number}
 use Rattle.channel.specs.State.{only, is_held, is_present, is_open}
-use Rattle.channel.specs.declared.state.Party.TheVariants.{Nobody, By}
 use Rattle.channel.specs.declared.state.Call.{Call}
-use Rattle.channel.specs.declared.state.Call.TheVariants.{Closed, Open}
 use Rattle.channel.specs.declared.state.Arrival.{Arrival}
-use Rattle.channel.specs.declared.state.Arrival.TheVariants.{Absent, Present}
 use Rattle.channel.specs.declared.state.Channel.{Channel}
 use Rattle.channel.specs.declared.state.Event.{Event}
 use Rattle.channel.specs.declared.state.Event.TheVariants.{Capture, Release, Cut, PressOn, PressOff, MobileOn, MobileOff, Ring, Cancel, RingAnswer, Tick, EndTalk, EndCall}
@@ -41,13 +38,13 @@ pub record TalkOk (kind direction base : ℕ) (n : Number) : Type 0 where
   pub base_ok : BaseOk base
   pub number_ok : NumberOk n
 
-abbrev pub CallOk : Call → Type 0
-CallOk Closed = Unit {0}
-CallOk (Open k d m b s) = TalkOk k d b s
+abbrev pub CallOk : Option Call → Type 0
+CallOk None = Unit {0}
+CallOk (Some k) = TalkOk k.kind k.direction k.base k.source
 
-abbrev pub ArrivalOk : Arrival → Type 0
-ArrivalOk Absent = Unit {0}
-ArrivalOk (Present k m b n) = TalkOk k 2 b n
+abbrev pub ArrivalOk : Option Arrival → Type 0
+ArrivalOk None = Unit {0}
+ArrivalOk (Some a) = TalkOk a.kind 2 a.base a.number
 
 pub record InRange (c : Channel) : Type 0 where
   pub code_ok : c.code ≤ 99
@@ -72,15 +69,15 @@ pub record Timed (c : Channel) : Type 0 where
 -- ---- rings
 
 -- an individual call from a mobile, told to one desk
-abbrev pub RingCall : Call → Type 0
-RingCall Closed = ⊥
-RingCall (Open k d m b s) = (k ≡ individual) × ((d ≡ up) × ((called : ℕ) × (m ≡ only called)))
+abbrev pub RingCall : Option Call → Type 0
+RingCall None = ⊥
+RingCall (Some k) = (k.kind ≡ individual) × ((k.direction ≡ up) × ((called : ℕ) × (k.recipients ≡ only called)))
 
 -- 02 §1: while the ring timer runs there is the ring's call, and nobody holds, presses or talks; so no other timer runs (`Timed`)
 pub record Rung (c : Channel) : Type 0 where
-  pub nobody-holds : c.holder ≡ Nobody
-  pub nobody_presses : c.presser ≡ Nobody
-  pub nobody-talks : c.arrival ≡ Absent
+  pub nobody-holds : c.holder ≡ None
+  pub nobody_presses : c.presser ≡ None
+  pub nobody-talks : c.arrival ≡ None
   pub ring-call : RingCall c.call
 
 -- ---- all that holds of a channel
@@ -92,9 +89,9 @@ pub record ChannelOk (c : Channel) : Type 0 where
 
 -- "the channel has" no "holder, call, arrival or ring"
 pub record Idle (c : Channel) : Type 0 where
-  pub free : c.holder ≡ Nobody
-  pub closed : c.call ≡ Closed
-  pub absent : c.arrival ≡ Absent
+  pub free : c.holder ≡ None
+  pub closed : c.call ≡ None
+  pub absent : c.arrival ≡ None
   pub silent : is_ringing c ≡ false
 
 -- what an accepted entry makes sure of before an event: numbers and a mobile's base in range, and that a press is the holder's
@@ -103,7 +100,7 @@ abbrev pub Fits : Event → Channel → Type 0
 Fits (Capture d) c = Unit {0}
 Fits (Release d) c = Unit {0}
 Fits Cut c = is_held c.holder ≡ true
-Fits (PressOn d n) c = NumberOk n × (c.holder ≡ By d)
+Fits (PressOn d n) c = NumberOk n × (c.holder ≡ Some d)
 Fits PressOff c = is_pressed c ≡ true
 Fits (MobileOn b n) c = (b ≤ 29) × NumberOk n × (is_ringing c ≡ false)
 Fits MobileOff c = is_present c.arrival ≡ true

@@ -1,6 +1,6 @@
 -- What is promised of the line rules of one channel, for every channel and every set of listeners. `proofs/` proves each under the
 -- name given with it. Most of them shut out one of 01's traps on the bench.
-use Rattle.std.specs.Prelude.{ℕ, zero, suc, ◌≤◌, List, [], ◌∷◌, ◌++◌, map, Bool, true, false, ◌⊎◌, ◌≡◌, eqb, ltb, replicate}
+use Rattle.std.specs.Prelude.{ℕ, zero, suc, ◌≤◌, List, [], ◌∷◌, ◌++◌, map, Bool, true, false, ◌⊎◌, ◌≡◌, eqb, ltb, replicate, Option, None, Some}
 use Rattle.laws.specs.Each.{Each}
 use Rattle.telegram.specs.Telegram.{num}
 use Rattle.telegram.specs.declared.message.Number.{Number}
@@ -11,11 +11,8 @@ use Rattle.line_rules.specs.Veil.{hide_call, hide_arrival, hide, hide_step}
 use Rattle.line_rules.specs.Turns.{orders_to, lasting, ByTurns, Begins}
 use Rattle.line_rules.specs.Invariant.{NumberOk, ChannelOk, Fits, NoticeOk, StepOk, ContentOk}
 use Rattle.line_rules.specs.Among.{Around, numbers_in, AllListen, ForDesk, Among, FitsAmong, NoticeTold, StepAmong}
-use Rattle.channel.specs.declared.state.Party.TheVariants.{Nobody, By}
 use Rattle.channel.specs.declared.state.Call.{Call}
-use Rattle.channel.specs.declared.state.Call.TheVariants.{Open}
 use Rattle.channel.specs.declared.state.Arrival.{Arrival}
-use Rattle.channel.specs.declared.state.Arrival.TheVariants.{Absent, Present}
 use Rattle.channel.specs.declared.state.Channel.{Channel}
 use Rattle.channel.specs.declared.state.Event.{Event}
 use Rattle.channel.specs.declared.state.Event.TheVariants.{Capture, Release, Cut, PressOn, PressOff, MobileOn, MobileOff, Ring, Cancel, RingAnswer, Tick, EndTalk, EndCall}
@@ -29,19 +26,19 @@ recipients_of = map (λ (s : Send). s.recipients)
 -- A mobile off goes to those who were told of its mobile on, whoever holds or listens by then (`Traps.off_to_the_told`).
 abbrev pub OffToTheTold : Type 0
 OffToTheTold =
-    (c : Channel) (k m b : ℕ) (n : Number) → c.arrival ≡ Present k m b n → recipients_of (mobile_off c).sends ≡ m ∷ m ∷ m ∷ []
+    (c : Channel) (a : Arrival) → c.arrival ≡ Some a → recipients_of (mobile_off c).sends ≡ a.recipients ∷ a.recipients ∷ a.recipients ∷ []
 
 abbrev pub GoesTo : ℕ → Send → Type 0
 GoesTo m s = s.recipients ≡ m
 
 -- A mobile on, on a held channel, goes to the holder alone (`Traps.on_to_the_holder`).
 abbrev pub OnToTheHolder : Type 0
-OnToTheHolder = (e b : ℕ) (n : Number) (c : Channel) (d : ℕ) → c.holder ≡ By d → Each (GoesTo (only d)) (mobile_on e b n c).sends
+OnToTheHolder = (e b : ℕ) (n : Number) (c : Channel) (d : ℕ) → c.holder ≡ Some d → Each (GoesTo (only d)) (mobile_on e b n c).sends
 
 -- the recipients that an arrival keeps
-abbrev pub kept_in : Arrival → ℕ
-kept_in Absent = 0
-kept_in (Present k m b n) = m
+abbrev pub kept_in : Option Arrival → ℕ
+kept_in None = 0
+kept_in (Some a) = a.recipients
 
 -- A mobile on keeps whom it tells: all of it goes to the recipients of the arrival that it makes (`Traps.told_are_kept`).
 abbrev pub ToldAreKept : Type 0
@@ -87,9 +84,9 @@ abbrev pub OneTimerAtATime : Type 0
 OneTimerAtATime = (e : ℕ) (c : Channel) → ltb 0 c.quiet ≡ true → (tick e c).next.release ≡ c.release
 
 -- a held channel with no press and no arrival, its timers just started
-unfoldable pub quietly : ℕ → ℕ → ℕ → Call → Channel
+unfoldable pub quietly : ℕ → ℕ → ℕ → Option Call → Channel
 quietly code entitled d k =
-    record { code = code; entitled = entitled; holder = By d; presser = Nobody; quiet = quiet_time; release = release_time; ring = 0; call = k; arrival = Absent }
+    record { code = code; entitled = entitled; holder = Some d; presser = None; quiet = quiet_time; release = release_time; ring = 0; call = k; arrival = None }
 
 -- what each of so many ticks sends, and whether a call is open and the channel held after it
 unfoldable pub by_ticks : ℕ → ℕ → Channel → List (List Send × (Bool × Bool))
@@ -101,7 +98,7 @@ by_ticks (suc n) e c =
 -- (`Traps.ten_and_a_hundred_and_thirty`); while a desk presses, a call is open (`StaysOk`)
 abbrev pub TenAndAHundredAndThirty : Type 0
 TenAndAHundredAndThirty =
-    (e : ℕ) (c : Channel) (d : ℕ) → c.holder ≡ By d → c.arrival ≡ Absent → is_open c.call ≡ true → c.ring ≡ 0
+    (e : ℕ) (c : Channel) (d : ℕ) → c.holder ≡ Some d → c.arrival ≡ None → is_open c.call ≡ true → c.ring ≡ 0
     → by_ticks 130 e (press_off c).next
     ≡ replicate 9 ([], (true, true))
     ++ ((end_of 3 c.call, (false, true)) ∷ replicate 119 ([], (false, true)) ++ ((freed_sends e c, (false, false)) ∷ []))
@@ -113,13 +110,13 @@ TenAndAHundredAndThirty =
 abbrev pub RingToTheCalled : Type 0
 RingToTheCalled =
     (d b : ℕ) (n : Number) (c : Channel)
-    → Each (GoesTo (only d)) (ring d b n c).sends × ((ring d b n c).next.call ≡ Open 3 2 (only d) b n)
+    → Each (GoesTo (only d)) (ring d b n c).sends × ((ring d b n c).next.call ≡ Some (record { kind = 3; direction = 2; recipients = only d; base = b; source = n }))
 
 -- "gives that desk, and no other": the end of a ring that is not answered goes to those whom its call was told to
 -- (`Traps.ring_end_to_the_called`).
 abbrev pub RingEndToTheCalled : Type 0
 RingEndToTheCalled =
-    (reason : ℕ) (c : Channel) (k d m b : ℕ) (n : Number) → c.call ≡ Open k d m b n → Each (GoesTo m) (unanswered reason c).sends
+    (reason : ℕ) (c : Channel) (k : Call) → c.call ≡ Some k → Each (GoesTo k.recipients) (unanswered reason c).sends
 
 -- whether a mobile still rings after each of so many ticks, and what each sends
 unfoldable pub ring_ticks : ℕ → ℕ → Channel → List (List Send × Bool)
@@ -132,14 +129,14 @@ FourteenAndTheFifteenth =
     (e d b : ℕ) (n : Number) (c : Channel)
     → ring_ticks 15 e (ring d b n c).next
     ≡ replicate 14 ([], true)
-    ++ ((to (only d) (Incoming 0) ∷ to (only d) (CallResult 0) ∷ end_of 5 (ring_call d b n), false) ∷ [])
+    ++ ((to (only d) (Incoming 0) ∷ to (only d) (CallResult 0) ∷ end_of 5 (Some (ring_call d b n)), false) ∷ [])
 
 -- "a cancel gives the same with reason 02" (`Traps.cancel_is_the_same`).
 abbrev pub CancelIsTheSame : Type 0
 CancelIsTheSame =
     (e d b : ℕ) (n : Number) (c : Channel)
     → (happens Cancel e (ring d b n c).next).sends
-    ≡ to (only d) (Incoming 0) ∷ to (only d) (CallResult 0) ∷ end_of 2 (ring_call d b n)
+    ≡ to (only d) (Incoming 0) ∷ to (only d) (CallResult 0) ∷ end_of 2 (Some (ring_call d b n))
 
 -- "A handover ends it as a cancel does" (`Traps.handover_cancels`).
 abbrev pub HandoverCancels : Type 0
@@ -190,10 +187,10 @@ abbrev pub HideTwice : Type 0
 HideTwice = (B : ℕ) (c : Channel) → hide B (hide B c) ≡ hide B c
 
 abbrev pub PresentHide : Type 0
-PresentHide = (B : ℕ) (a : Arrival) → is_present (hide_arrival B a) ≡ is_present a
+PresentHide = (B : ℕ) (a : Option Arrival) → is_present (hide_arrival B a) ≡ is_present a
 
 abbrev pub OpenHide : Type 0
-OpenHide = (B : ℕ) (k : Call) → is_open (hide_call B k) ≡ is_open k
+OpenHide = (B : ℕ) (k : Option Call) → is_open (hide_call B k) ≡ is_open k
 
 abbrev pub HappensHide : Type 0
 HappensHide = (B : ℕ) (v : Event) (e : ℕ) (c : Channel) → hide_step B (happens v e (hide B c)) ≡ hide_step B (happens v e c)
@@ -230,8 +227,8 @@ Ends EndCall c d = Unit {0}
 -- A holding lasts unless one of these ends it (`Kept.holding_lasts`).
 abbrev pub HoldingLasts : Type 0
 HoldingLasts =
-    (v : Event) (e : ℕ) (c : Channel) (d : ℕ) → Fits v c → ChannelOk c → c.holder ≡ By d
-    → ((happens v e c).next.holder ≡ By d) ⊎ Ends v c d
+    (v : Event) (e : ℕ) (c : Channel) (d : ℕ) → Fits v c → ChannelOk c → c.holder ≡ Some d
+    → ((happens v e c).next.holder ≡ Some d) ⊎ Ends v c d
 
 -- ---- The plan's part of a channel
 

@@ -1,13 +1,9 @@
 -- What was told is ended: what a desk is told of a press, a mobile or a call begins and ends by turns.
-use Rattle.std.specs.Prelude.{ℕ, List, [], ◌∷◌, Bool, false, ◌&&◌, ◌||◌, not, cond, ◌≡◌, eqb}
+use Rattle.std.specs.Prelude.{ℕ, List, [], ◌∷◌, Bool, false, ◌&&◌, ◌||◌, not, cond, ◌≡◌, eqb, Option, None, Some}
 use Rattle.laws.specs.Table.{pick}
 use Rattle.channel.specs.State.{only, is_in, is_present}
-use Rattle.channel.specs.declared.state.Party.{Party}
-use Rattle.channel.specs.declared.state.Party.TheVariants.{Nobody, By}
 use Rattle.channel.specs.declared.state.Call.{Call}
-use Rattle.channel.specs.declared.state.Call.TheVariants.{Closed, Open}
 use Rattle.channel.specs.declared.state.Arrival.{Arrival}
-use Rattle.channel.specs.declared.state.Arrival.TheVariants.{Absent, Present}
 use Rattle.channel.specs.declared.state.Channel.{Channel}
 use Rattle.channel.specs.declared.state.Event.{Event}
 use Rattle.channel.specs.declared.state.Event.TheVariants.{Capture, Release, Cut, PressOn, PressOff, MobileOn, MobileOff, Ring, Cancel, RingAnswer, Tick, EndTalk, EndCall}
@@ -50,17 +46,17 @@ orders_to B x [] = []
 orders_to B x (s ∷ ss) =
     cond (eqb (matter_of s.notice) x && is_in B s.recipients) (order_of s.notice ∷ orders_to B x ss) (orders_to B x ss)
 
-abbrev pub told_of_press : ℕ → Party → Bool
-told_of_press B Nobody = false
-told_of_press B (By d) = is_in B (only d)
+abbrev pub told_of_press : ℕ → Option ℕ → Bool
+told_of_press B None = false
+told_of_press B (Some d) = is_in B (only d)
 
-abbrev pub told_of_call : ℕ → Call → Bool
-told_of_call B Closed = false
-told_of_call B (Open k d m b s) = is_in B m
+abbrev pub told_of_call : ℕ → Option Call → Bool
+told_of_call B None = false
+told_of_call B (Some k) = is_in B k.recipients
 
-abbrev pub told_of_arrival : ℕ → Arrival → Bool
-told_of_arrival B Absent = false
-told_of_arrival B (Present k m b n) = is_in B m
+abbrev pub told_of_arrival : ℕ → Option Arrival → Bool
+told_of_arrival B None = false
+told_of_arrival B (Some a) = is_in B a.recipients
 
 -- the incoming contact: a mobile talks or rings
 abbrev pub told_of_mobile : ℕ → Channel → Bool

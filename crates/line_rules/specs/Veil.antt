@@ -1,14 +1,12 @@
 -- What desk B may see of a channel and of what it sends: `hide B` puts the none-number in the place of the number of each call
 -- and arrival that B was not told of.
-use Rattle.std.specs.Prelude.{ℕ, List, map, Bool, true, false}
+use Rattle.std.specs.Prelude.{ℕ, List, map, Bool, true, false, Option, None, Some}
 use Rattle.telegram.specs.Telegram.{num}
 use Rattle.telegram.specs.declared.message.Number.{Number}
 use Rattle.channel.specs.State.{is_in}
 use Rattle.line_rules.specs.Rules.{Step, step, to}
 use Rattle.channel.specs.declared.state.Call.{Call}
-use Rattle.channel.specs.declared.state.Call.TheVariants.{Closed, Open}
 use Rattle.channel.specs.declared.state.Arrival.{Arrival}
-use Rattle.channel.specs.declared.state.Arrival.TheVariants.{Absent, Present}
 use Rattle.channel.specs.declared.state.Channel.{Channel}
 use Rattle.channel.specs.declared.state.Notice.{Notice}
 use Rattle.channel.specs.declared.state.Notice.TheVariants.{PressAnswer, Incoming, BaseArrival, Call as CallNotice, PressNotice, CallerNotice, CaptureReply, CaptureState, RingNotice, AnswerReply, CallResult}
@@ -20,13 +18,15 @@ veil true n = n
 veil false n = num 0
 
 module _ (B : ℕ) where
-  abbrev pub hide_call : Call → Call
-  hide_call Closed = Closed
-  hide_call (Open k d m b s) = Open k d m b (veil (is_in B m) s)
+  abbrev pub hide_call : Option Call → Option Call
+  hide_call None = None
+  hide_call (Some k) =
+      Some (record { kind = k.kind; direction = k.direction; recipients = k.recipients; base = k.base; source = veil (is_in B k.recipients) k.source })
 
-  abbrev pub hide_arrival : Arrival → Arrival
-  hide_arrival Absent = Absent
-  hide_arrival (Present k m b n) = Present k m b (veil (is_in B m) n)
+  abbrev pub hide_arrival : Option Arrival → Option Arrival
+  hide_arrival None = None
+  hide_arrival (Some a) =
+      Some (record { kind = a.kind; recipients = a.recipients; base = a.base; number = veil (is_in B a.recipients) a.number })
 
   abbrev pub hide : Channel → Channel
   hide c =

@@ -13,21 +13,19 @@ use talk::{mobile_off, mobile_on, press_off, press_on};
 fn end_talk(channel: Channel) -> Moved
     ensures { Follows result (end_talk channel) }
 {
-    let presser = channel.presser;
-    let call = channel.call;
-    let present = channel.arrival;
-    let press = press_sends(0, set_of(presser), call);
-    let answer = press.answer;
-    let talk = press.talk;
-    let mobile = mobile_off_sends(present);
-    let incoming = mobile.incoming;
-    let arrival = mobile.arrival;
-    let mobile_talk = mobile.talk;
-    let next = Channel::new(channel.code, channel.entitled);
-    let silent = SILENT;
+    let press = press_sends(0, set_of(channel.presser), channel.call);
+    let mobile = mobile_off_sends(channel.arrival);
     Moved {
-        next,
-        sends: [answer, talk, incoming, arrival, mobile_talk, silent, silent],
+        next: Channel::new(channel.code, channel.entitled),
+        sends: [
+            press.answer,
+            press.talk,
+            mobile.incoming,
+            mobile.arrival,
+            mobile.talk,
+            SILENT,
+            SILENT,
+        ],
     }
 }
 
@@ -35,23 +33,18 @@ fn end_talk(channel: Channel) -> Moved
 fn end_call(listeners: u8, channel: Channel) -> Moved
     ensures { Follows result (end_call listeners channel) }
 {
-    let holder = channel.holder;
-    let call = channel.call;
-    let off = ring_off_sends(0 < channel.ring, call);
-    let incoming = off.incoming;
-    let result = off.result;
-    let end = end(2, call);
-    let recipients = set_if(is_held(holder), listeners);
-    let state = freed(recipients, holder);
-    let next = Channel::new(channel.code, channel.entitled);
-    let silent = SILENT;
+    let off = ring_off_sends(0 < channel.ring, channel.call);
+    let end = end(2, channel.call);
+    let recipients = set_if(is_held(channel.holder), listeners);
+    let state = freed(recipients, channel.holder);
     Moved {
-        next,
-        sends: [incoming, result, end, state, silent, silent, silent],
+        next: Channel::new(channel.code, channel.entitled),
+        sends: [off.incoming, off.result, end, state, SILENT, SILENT, SILENT],
     }
 }
 
 // What happens on a channel, by its event.
+#[tactic(auto, unfolding(line_rules::specs::Rules::happens))]
 pub fn happens(event: Event, listeners: u8, channel: Channel) -> Moved
     ensures { Follows result (happens event listeners channel) }
 {

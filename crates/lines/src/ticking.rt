@@ -9,21 +9,18 @@ use sends::{SILENT, alone, end, freed};
 use timers::{is_due, run_out, ticked};
 
 // A timer runs out: the ring ends, or the call, or the hold.
+#[tactic(auto, unfolding(timers::specs::Falls::run_out))]
 fn due(listeners: u8, channel: Channel) -> Moved
     ensures { Follows result (run_out listeners channel) }
 {
     if 0 < channel.ring {
         return unanswered(5, channel);
     }
-    let call = channel.call;
-    let holder = channel.holder;
     let next = run_out(channel);
     if 0 < channel.quiet {
-        let end = end(3, call);
-        alone(next, end)
+        alone(next, end(3, channel.call))
     } else {
-        let state = freed(listeners, holder);
-        alone(next, state)
+        alone(next, freed(listeners, channel.holder))
     }
 }
 
@@ -33,6 +30,5 @@ pub fn tick(listeners: u8, channel: Channel) -> Moved
     if is_due(channel) {
         return due(listeners, channel);
     }
-    let next = ticked(channel);
-    alone(next, SILENT)
+    alone(ticked(channel), SILENT)
 }

@@ -3,12 +3,9 @@
 use mathlib.Core.Bool.{Bool, true, false}
 use mathlib.Core.Path.{◌≡◌, refl}
 use lib.Dec.{eqb}
-use Rattle.channel.specs.declared.state.Party.{Party}
-use Rattle.channel.specs.declared.state.Party.TheVariants.{Nobody, By}
+use Rattle.std.specs.Prelude.{ℕ, Option, None, Some}
 use Rattle.channel.specs.declared.state.Call.{Call}
-use Rattle.channel.specs.declared.state.Call.TheVariants.{Closed, Open}
 use Rattle.channel.specs.declared.state.Arrival.{Arrival}
-use Rattle.channel.specs.declared.state.Arrival.TheVariants.{Absent, Present}
 use Rattle.channel.specs.declared.state.Channel.{Channel}
 use Rattle.set_state.specs.declared.state.Desk.{Desk}
 use Rattle.plain_set.specs.Plain.{party_in, call_in, arrival_in, channel_in, desk_in, flag_of, party_of, call_of, arrival_of, channel_of, desk_of}
@@ -19,17 +16,17 @@ flag-back : (b : Bool) → eqb (flag_of b) 1 ≡ b
 flag-back true = refl
 flag-back false = refl
 
-party_back : (p : Party) → party_in (party_of p) ≡ p
-party_back Nobody = refl
-party_back (By d) = refl
+party_back : (p : Option ℕ) → party_in (party_of p) ≡ p
+party_back None = refl
+party_back (Some d) = refl
 
-call_back : (c : Call) → call_in (call_of c) ≡ c
-call_back Closed = refl
-call_back (Open kind direction recipients base source) = refl
+call_back : (c : Option Call) → call_in (call_of c) ≡ c
+call_back None = refl
+call_back (Some k) = refl
 
-arrival-back : (a : Arrival) → arrival_in (arrival_of a) ≡ a
-arrival-back Absent = refl
-arrival-back (Present kind recipients base number) = refl
+arrival-back : (a : Option Arrival) → arrival_in (arrival_of a) ≡ a
+arrival-back None = refl
+arrival-back (Some a) = refl
 
 channel-back : (c : Channel) → channel_in (channel_of c) ≡ c
 channel-back c = simp (party_back c.holder, party_back c.presser, call_back c.call, arrival-back c.arrival) refl

@@ -1,12 +1,8 @@
 -- A set as the numbers that a caller's memory holds: which set they are, and which numbers a set is kept as.
-use Rattle.std.specs.Prelude.{ℕ, List, map, Bool, cond, eqb, replicate}
+use Rattle.std.specs.Prelude.{ℕ, List, map, Bool, cond, eqb, replicate, Option, None, Some}
 use Rattle.telegram.specs.Telegram.{num}
-use Rattle.channel.specs.declared.state.Party.{Party}
-use Rattle.channel.specs.declared.state.Party.TheVariants.{Nobody, By}
 use Rattle.channel.specs.declared.state.Call.{Call}
-use Rattle.channel.specs.declared.state.Call.TheVariants.{Closed, Open}
 use Rattle.channel.specs.declared.state.Arrival.{Arrival}
-use Rattle.channel.specs.declared.state.Arrival.TheVariants.{Absent, Present}
 use Rattle.channel.specs.declared.state.Channel.{Channel}
 use Rattle.set_state.specs.declared.state.Desk.{Desk}
 use Rattle.set_state.specs.declared.state.LineSet.{LineSet}
@@ -19,14 +15,16 @@ use Rattle.plain_set.specs.declared.plain.PlainSet.{PlainSet}
 
 -- ---- the set that the numbers are, however they begin
 
-abbrev pub party_in : PlainParty → Party
-party_in p = cond (eqb p.held 1) (By p.desk) Nobody
+abbrev pub party_in : PlainParty → Option ℕ
+party_in p = cond (eqb p.held 1) (Some p.desk) None
 
-abbrev pub call_in : PlainCall → Call
-call_in p = cond (eqb p.opened 1) (Open p.kind p.direction p.recipients p.base (num p.source)) Closed
+abbrev pub call_in : PlainCall → Option Call
+call_in p =
+    cond (eqb p.opened 1) (Some (record { kind = p.kind; direction = p.direction; recipients = p.recipients; base = p.base; source = num p.source })) None
 
-abbrev pub arrival_in : PlainArrival → Arrival
-arrival_in p = cond (eqb p.present 1) (Present p.kind p.recipients p.base (num p.number)) Absent
+abbrev pub arrival_in : PlainArrival → Option Arrival
+arrival_in p =
+    cond (eqb p.present 1) (Some (record { kind = p.kind; recipients = p.recipients; base = p.base; number = num p.number })) None
 
 abbrev pub channel_in : PlainChannel → Channel
 channel_in p =
@@ -44,19 +42,19 @@ set_in p =
 abbrev pub flag_of : Bool → ℕ
 flag_of b = cond b 1 0
 
-abbrev pub party_of : Party → PlainParty
-party_of Nobody = record { held = 0; desk = 0 }
-party_of (By d) = record { held = 1; desk = d }
+abbrev pub party_of : Option ℕ → PlainParty
+party_of None = record { held = 0; desk = 0 }
+party_of (Some d) = record { held = 1; desk = d }
 
-abbrev pub call_of : Call → PlainCall
-call_of Closed = record { source = 0; base = 0; opened = 0; kind = 0; direction = 0; recipients = 0; spare = 0 }
-call_of (Open kind direction recipients base source) =
-    record { source = source.digits; base = base; opened = 1; kind = kind; direction = direction; recipients = recipients; spare = 0 }
+abbrev pub call_of : Option Call → PlainCall
+call_of None = record { source = 0; base = 0; opened = 0; kind = 0; direction = 0; recipients = 0; spare = 0 }
+call_of (Some k) =
+    record { source = k.source.digits; base = k.base; opened = 1; kind = k.kind; direction = k.direction; recipients = k.recipients; spare = 0 }
 
-abbrev pub arrival_of : Arrival → PlainArrival
-arrival_of Absent = record { number = 0; base = 0; spare = 0; present = 0; kind = 0; recipients = 0; tail = replicate 3 0 }
-arrival_of (Present kind recipients base number) =
-    record { number = number.digits; base = base; spare = 0; present = 1; kind = kind; recipients = recipients; tail = replicate 3 0 }
+abbrev pub arrival_of : Option Arrival → PlainArrival
+arrival_of None = record { number = 0; base = 0; spare = 0; present = 0; kind = 0; recipients = 0; tail = replicate 3 0 }
+arrival_of (Some a) =
+    record { number = a.number.digits; base = a.base; spare = 0; present = 1; kind = a.kind; recipients = a.recipients; tail = replicate 3 0 }
 
 abbrev pub channel_of : Channel → PlainChannel
 channel_of c =

@@ -5,74 +5,59 @@ ghost use Rattle.plain_set.specs.Plain.{party_in, call_in, arrival_in, channel_i
 use super::plain::{
     PlainArrival, PlainCall, PlainChannel, PlainDesk, PlainParty, PlainSet, PlainSize,
 };
-use channel::{Arrival, Call, Channel, Party};
+use channel::{Arrival, Call, Channel};
 use set_state::{Desk, LineSet, Link, Size};
 use telegram::Number;
 
-fn party_in(p: PlainParty) -> Party
+// Functions and not From, here and below: their contract is the equation itself, and the law of From would say no more.
+fn party_in(p: PlainParty) -> Option<u8>
     ensures { result ≡ party_in p }
 {
-    if p.held == 1 {
-        Party::By(p.desk)
-    } else {
-        Party::Nobody
-    }
+    if p.held == 1 { Some(p.desk) } else { None }
 }
 
-fn call_in(p: PlainCall) -> Call
+fn call_in(p: PlainCall) -> Option<Call>
     ensures { result ≡ call_in p }
 {
-    if p.opened == 1 {
-        let source = Number::new(p.source);
-        Call::Open {
-            kind: p.kind,
-            direction: p.direction,
-            recipients: p.recipients,
-            base: p.base,
-            source,
-        }
-    } else {
-        Call::Closed
+    if p.opened != 1 {
+        return None;
     }
+    Some(Call {
+        kind: p.kind,
+        direction: p.direction,
+        recipients: p.recipients,
+        base: p.base,
+        source: Number::new(p.source),
+    })
 }
 
-fn arrival_in(p: PlainArrival) -> Arrival
+fn arrival_in(p: PlainArrival) -> Option<Arrival>
     ensures { result ≡ arrival_in p }
 {
-    if p.present == 1 {
-        let number = Number::new(p.number);
-        Arrival::Present {
-            kind: p.kind,
-            recipients: p.recipients,
-            base: p.base,
-            number,
-        }
-    } else {
-        Arrival::Absent
+    if p.present != 1 {
+        return None;
     }
+    Some(Arrival {
+        kind: p.kind,
+        recipients: p.recipients,
+        base: p.base,
+        number: Number::new(p.number),
+    })
 }
 
 fn channel_in(p: PlainChannel) -> Channel
     ensures { result ≡ channel_in p }
 {
-    let h = p.holder;
-    let t = p.presser;
-    let c = p.call;
-    let a = p.arrival;
-    let holder = party_in(h);
-    let presser = party_in(t);
-    let call = call_in(c);
-    let arrival = arrival_in(a);
     Channel {
         code: p.code,
         entitled: p.entitled,
-        holder,
-        presser,
+        holder: party_in(p.holder),
+        presser: party_in(p.presser),
         quiet: p.quiet,
         release: p.release,
         ring: p.ring,
-        call,
-        arrival,
+        call: call_in(p.call),
+        arrival: arrival_in(p.arrival),
     }
 }
 
@@ -86,18 +71,14 @@ fn desk_in(p: PlainDesk) -> Desk
     }
 }
 
+// By places, here and in the three like it: an array's `map` made the archive's `plain_of` slower by 21 % of its instructions
+// (callgrind), since it copies the array first.
 fn channels_in(plain: [PlainChannel; 32]) -> [Channel; 32]
     ensures { result ≡ map channel_in plain }
 {
-    let first = plain[0];
-    let filler = channel_in(first);
-    let mut channels = [filler; 32];
-    let mut i = 0;
-    while i < 32 {
-        let p = plain[i];
-        let c = channel_in(p);
-        channels[i] = c;
-        i += 1;
+    let mut channels = [channel_in(plain[0]); 32];
+    for i in 0..32 {
+        channels[i] = channel_in(plain[i]);
     }
     channels
 }
@@ -105,15 +86,9 @@ fn channels_in(plain: [PlainChannel; 32]) -> [Channel; 32]
 fn desks_in(plain: [PlainDesk; 4]) -> [Desk; 4]
     ensures { result ≡ map desk_in plain }
 {
-    let first = plain[0];
-    let filler = desk_in(first);
-    let mut desks = [filler; 4];
-    let mut i = 0;
-    while i < 4 {
-        let p = plain[i];
-        let d = desk_in(p);
-        desks[i] = d;
-        i += 1;
+    let mut desks = [desk_in(plain[0]); 4];
+    for i in 0..4 {
+        desks[i] = desk_in(plain[i]);
     }
     desks
 }
@@ -122,13 +97,9 @@ fn desks_in(plain: [PlainDesk; 4]) -> [Desk; 4]
 pub fn set_in(p: PlainSet) -> LineSet
     ensures { result ≡ set_in p }
 {
-    let plain_channels = p.channels;
-    let channels = channels_in(plain_channels);
-    let plain_desks = p.desks;
-    let desks = desks_in(plain_desks);
     LineSet {
-        channels,
-        desks,
+        channels: channels_in(p.channels),
+        desks: desks_in(p.desks),
         size: Size {
             desks: p.size.desks,
             channels: p.size.channels,
@@ -143,20 +114,20 @@ fn flag(b: bool) -> u8
     if b { 1 } else { 0 }
 }
 
-fn party_of(party: Party) -> PlainParty
+fn party_of(party: Option<u8>) -> PlainParty
     ensures { result ≡ party_of party }
 {
     match party {
-        Party::Nobody => PlainParty { held: 0, desk: 0 },
-        Party::By(desk) => PlainParty { held: 1, desk },
+        None => PlainParty { held: 0, desk: 0 },
+        Some(desk) => PlainParty { held: 1, desk },
     }
 }
 
-fn call_of(call: Call) -> PlainCall
+fn call_of(call: Option<Call>) -> PlainCall
     ensures { result ≡ call_of call }
 {
     match call {
-        Call::Closed => PlainCall {
+        None => PlainCall {
             source: 0,
             base: 0,
             opened: 0,
@@ -165,30 +136,24 @@ fn call_of(call: Call) -> PlainCall
             recipients: 0,
             spare: 0,
         },
-        Call::Open {
-            kind,
-            direction,
-            recipients,
-            base,
-            source,
-        } => PlainCall {
-            source: source.digits,
-            base,
+        Some(open) => PlainCall {
+            source: open.source.digits,
+            base: open.base,
             opened: 1,
-            kind,
-            direction,
-            recipients,
+            kind: open.kind,
+            direction: open.direction,
+            recipients: open.recipients,
             spare: 0,
         },
     }
 }
 
-fn arrival_of(arrival: Arrival) -> PlainArrival
+fn arrival_of(arrival: Option<Arrival>) -> PlainArrival
     ensures { result ≡ arrival_of arrival }
 {
     let tail = [0; 3];
     match arrival {
-        Arrival::Absent => PlainArrival {
+        None => PlainArrival {
             number: 0,
             base: 0,
             spare: 0,
@@ -197,18 +162,13 @@ fn arrival_of(arrival: Arrival) -> PlainArrival
             recipients: 0,
             tail,
         },
-        Arrival::Present {
-            kind,
-            recipients,
-            base,
-            number,
-        } => PlainArrival {
-            number: number.digits,
-            base,
+        Some(talking) => PlainArrival {
+            number: talking.number.digits,
+            base: talking.base,
             spare: 0,
             present: 1,
-            kind,
-            recipients,
+            kind: talking.kind,
+            recipients: talking.recipients,
             tail,
         },
     }
@@ -217,26 +177,17 @@ fn arrival_of(arrival: Arrival) -> PlainArrival
 fn channel_of(c: Channel) -> PlainChannel
     ensures { result ≡ channel_of c }
 {
-    let spare = [0; 3];
-    let h = c.holder;
-    let t = c.presser;
-    let k = c.call;
-    let a = c.arrival;
-    let holder = party_of(h);
-    let presser = party_of(t);
-    let call = call_of(k);
-    let arrival = arrival_of(a);
     PlainChannel {
-        call,
-        arrival,
-        holder,
-        presser,
+        call: call_of(c.call),
+        arrival: arrival_of(c.arrival),
+        holder: party_of(c.holder),
+        presser: party_of(c.presser),
         code: c.code,
         entitled: c.entitled,
         quiet: c.quiet,
         release: c.release,
         ring: c.ring,
-        spare,
+        spare: [0; 3],
     }
 }
 
@@ -253,15 +204,9 @@ fn desk_of(d: Desk) -> PlainDesk
 fn channels_of(channels: [Channel; 32]) -> [PlainChannel; 32]
     ensures { result ≡ map channel_of channels }
 {
-    let first = channels[0];
-    let filler = channel_of(first);
-    let mut plain = [filler; 32];
-    let mut i = 0;
-    while i < 32 {
-        let c = channels[i];
-        let p = channel_of(c);
-        plain[i] = p;
-        i += 1;
+    let mut plain = [channel_of(channels[0]); 32];
+    for i in 0..32 {
+        plain[i] = channel_of(channels[i]);
     }
     plain
 }
@@ -269,15 +214,9 @@ fn channels_of(channels: [Channel; 32]) -> [PlainChannel; 32]
 fn desks_of(desks: [Desk; 4]) -> [PlainDesk; 4]
     ensures { result ≡ map desk_of desks }
 {
-    let first = desks[0];
-    let filler = desk_of(first);
-    let mut plain = [filler; 4];
-    let mut i = 0;
-    while i < 4 {
-        let d = desks[i];
-        let p = desk_of(d);
-        plain[i] = p;
-        i += 1;
+    let mut plain = [desk_of(desks[0]); 4];
+    for i in 0..4 {
+        plain[i] = desk_of(desks[i]);
     }
     plain
 }
@@ -286,14 +225,10 @@ fn desks_of(desks: [Desk; 4]) -> [PlainDesk; 4]
 pub fn plain_of(layout: [u8; 4], set: LineSet) -> PlainSet
     ensures { result ≡ plain_of layout set }
 {
-    let set_channels = set.channels;
-    let channels = channels_of(set_channels);
-    let set_desks = set.desks;
-    let desks = desks_of(set_desks);
     PlainSet {
         layout,
-        channels,
-        desks,
+        channels: channels_of(set.channels),
+        desks: desks_of(set.desks),
         size: PlainSize {
             desks: set.size.desks,
             channels: set.size.channels,

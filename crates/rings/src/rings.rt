@@ -1,60 +1,41 @@
 // A mobile that rings one desk: the rules for the ring, for its end without an answer, and for the answer.
 ghost use Rattle.std.specs.Prelude.{◌≡◌};
-ghost use Rattle.channel.specs.State.{only};
-ghost use Rattle.line_rules.specs.Rules.{to, with_ring, with_call, ring, unanswered, answered, ring_answer};
+ghost use Rattle.line_rules.specs.Rules.{with_ring, with_call, ring, unanswered, answered, ring_answer};
 ghost use Rattle.sends.specs.Scripts.{Follows};
-ghost use Rattle.channel.specs.declared.state.Notice.TheVariants.{AnswerReply};
 
-use channel::{Call, Channel, Moved, Notice, Party, Send, only};
-use sends::{SILENT, alone, end, ring_off_sends, start, taken};
+use channel::{Call, Channel, Moved, Notice, only};
+use sends::{SILENT, alone, end, ring_off_sends, start, taken, to_desk};
 use telegram::Number;
 
 // The channel with another ring timer and call: a ring is both.
-fn with_ring(left: u8, call: Call, channel: Channel) -> Channel
+fn with_ring(left: u8, call: Option<Call>, channel: Channel) -> Channel
     ensures { result ≡ with_ring left (with_call call channel) }
 {
-    let holder = channel.holder;
-    let presser = channel.presser;
-    let arrival = channel.arrival;
     Channel {
-        code: channel.code,
-        entitled: channel.entitled,
-        holder,
-        presser,
-        quiet: channel.quiet,
-        release: channel.release,
         ring: left,
         call,
-        arrival,
+        ..channel
     }
 }
 
 // A mobile rings a desk: all of it to that desk alone.
+#[tactic(auto, unfolding(line_rules::specs::Rules::ring, sends::specs::Scripts::heard))]
 pub fn ring(d: u8, base: u8, number: Number, channel: Channel) -> Moved
     ensures { Follows result (ring d base number channel) }
 {
-    let recipients = only(d);
-    let call = Call::Open {
+    let call = Some(Call {
         kind: Call::INDIVIDUAL,
         direction: Call::UP,
-        recipients,
+        recipients: only(d),
         base: base as u16,
         source: number,
-    };
-    let incoming = Send {
-        recipients,
-        notice: Notice::Incoming { on: 1 },
-    };
-    let notice = Send {
-        recipients,
-        notice: Notice::RingNotice { number },
-    };
+    });
+    let incoming = to_desk(d, Notice::Incoming { on: 1 });
+    let notice = to_desk(d, Notice::RingNotice { number });
     let start = start(call);
-    let next = with_ring(Channel::RING, call, channel);
-    let silent = SILENT;
     Moved {
-        next,
-        sends: [incoming, notice, start, silent, silent, silent, silent],
+        next: with_ring(Channel::RING, call, channel),
+        sends: [incoming, notice, start, SILENT, SILENT, SILENT, SILENT],
     }
 }
 
@@ -62,69 +43,50 @@ pub fn ring(d: u8, base: u8, number: Number, channel: Channel) -> Moved
 pub fn unanswered(reason: u8, channel: Channel) -> Moved
     ensures { Follows result (unanswered reason channel) }
 {
-    let call = channel.call;
-    let off = ring_off_sends(true, call);
-    let incoming = off.incoming;
-    let result = off.result;
-    let end = end(reason, call);
-    let next = with_ring(0, Call::Closed, channel);
-    let silent = SILENT;
+    let off = ring_off_sends(true, channel.call);
+    let end = end(reason, channel.call);
     Moved {
-        next,
-        sends: [incoming, result, end, silent, silent, silent, silent],
-    }
-}
-
-// Whether a desk's ring answer was taken.
-fn reply(d: u8, res: u8) -> Send
-    ensures { result ≡ to (only d) (AnswerReply res) }
-{
-    let recipients = only(d);
-    Send {
-        recipients,
-        notice: Notice::AnswerReply { result: res },
+        next: with_ring(0, None, channel),
+        sends: [
+            off.incoming,
+            off.result,
+            end,
+            SILENT,
+            SILENT,
+            SILENT,
+            SILENT,
+        ],
     }
 }
 
 // The desk that answers gets the channel, as by a capture, and the call goes on.
+#[tactic(auto, unfolding(line_rules::specs::Rules::answered, sends::specs::Scripts::heard))]
 fn answered(listeners: u8, d: u8, channel: Channel) -> Moved
     ensures { Follows result (answered listeners d channel) }
 {
-    let presser = channel.presser;
-    let call = channel.call;
-    let arrival = channel.arrival;
-    let recipients = only(d);
-    let answer = reply(d, 1);
-    let result = Send {
-        recipients,
-        notice: Notice::CallResult { result: 1 },
-    };
+    let answer = to_desk(d, Notice::AnswerReply { result: 1 });
+    let result = to_desk(d, Notice::CallResult { result: 1 });
     let state = taken(listeners, d);
-    let silent = SILENT;
     Moved {
         next: Channel {
-            code: channel.code,
-            entitled: channel.entitled,
-            holder: Party::By(d),
-            presser,
+            holder: Some(d),
             quiet: Channel::QUIET,
             release: Channel::RELEASE,
             ring: 0,
-            call,
-            arrival,
+            ..channel
         },
-        sends: [answer, result, state, silent, silent, silent, silent],
+        sends: [answer, result, state, SILENT, SILENT, SILENT, SILENT],
     }
 }
 
 // Whether the answer matches the ring is not for the rule to say.
+#[tactic(auto, unfolding(line_rules::specs::Rules::ring_answer))]
 pub fn ring_answer(listeners: u8, d: u8, matched: bool, channel: Channel) -> Moved
     ensures { Follows result (ring_answer listeners d matched channel) }
 {
     if matched {
         answered(listeners, d, channel)
     } else {
-        let answer = reply(d, 0);
-        alone(channel, answer)
+        alone(channel, to_desk(d, Notice::AnswerReply { result: 0 }))
     }
 }

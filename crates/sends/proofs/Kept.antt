@@ -4,9 +4,9 @@ use mathlib.Core.List.{List, [], ◌∷◌, ◌++◌, append_assoc, append-nil}
 use mathlib.Core.Bool.{Bool, true, false, cond}
 use mathlib.Core.Path.{◌≡◌, refl}
 use lib.Dec.{eqb}
+use Rattle.std.specs.Prelude.{None, Some}
 use Rattle.sends.specs.Promises.{heard_of, HeardInTurn, NothingToHear, HeardSendBySend, HeardByNobody, HeardIf, PressOffHeard}
 use Rattle.sends.specs.Scripts.{heard}
-use Rattle.channel.specs.declared.state.Party.TheVariants.{Nobody, By}
 use Rattle.channel.specs.declared.state.Send.{Send}
 
 -- what comes after a send that may be left out
@@ -40,5 +40,5 @@ heard-sent_if true m n = refl
 heard-sent_if false m n = refl
 
 pub heard_press_off : PressOffHeard
-heard_press_off Nobody k = simp send-by-send refl
-heard_press_off (By d) k = simp send-by-send refl
+heard_press_off None k = simp send-by-send refl
+heard_press_off (Some d) k = simp send-by-send refl

@@ -1,9 +1,8 @@
 -- What is promised of what is heard of a script, beside the contracts. `proofs/Kept.antt` has the proof of each under the name
 -- given with it, and is the one module of the proofs that other crates cite.
-use Rattle.std.specs.Prelude.{ℕ, List, [], ◌∷◌, ◌++◌, Bool, cond, ◌≡◌}
+use Rattle.std.specs.Prelude.{ℕ, List, [], ◌∷◌, ◌++◌, Bool, cond, ◌≡◌, Option}
 use Rattle.channel.specs.State.{party_set}
 use Rattle.line_rules.specs.Rules.{to, sent_if, kind_of, press_off_sends}
-use Rattle.channel.specs.declared.state.Party.{Party}
 use Rattle.channel.specs.declared.state.Call.{Call}
 use Rattle.channel.specs.declared.state.Notice.{Notice}
 use Rattle.channel.specs.declared.state.Notice.TheVariants.{PressAnswer, PressNotice}
@@ -36,5 +35,5 @@ HeardIf = (t : Bool) (m : ℕ) (n : Notice) → heard (sent_if t (to m n ∷ [])
 -- What ends a press is heard like what is sent to who presses, as a set (`heard_press_off`).
 abbrev pub PressOffHeard : Type 0
 PressOffHeard =
-    (p : Party) (k : Call)
+    (p : Option ℕ) (k : Option Call)
     → heard (press_off_sends p k) ≡ heard_of (to (party_set p) (PressAnswer 0)) ++ heard_of (to (party_set p) (PressNotice (kind_of k) 0))

@@ -1,8 +1,8 @@
 -- How the code keeps what a rule sends: an array of seven sends in the rule's order, with a send to the empty set where the
 -- rule sends nothing.
-use Rattle.std.specs.Prelude.{ℕ, List, [], ◌∷◌, cond, ◌≡◌, eqb}
-use Rattle.telegram.specs.declared.message.Number.{Number}
+use Rattle.std.specs.Prelude.{ℕ, List, [], ◌∷◌, cond, ◌≡◌, eqb, Option}
 use Rattle.line_rules.specs.Rules.{Step, to, kind_of}
+use Rattle.channel.specs.declared.state.Arrival.{Arrival}
 use Rattle.channel.specs.declared.state.Call.{Call}
 use Rattle.channel.specs.declared.state.Moved.{Moved}
 use Rattle.channel.specs.declared.state.Notice.TheVariants.{PressAnswer, Incoming, BaseArrival, PressNotice, CallerNotice}
@@ -20,10 +20,10 @@ abbrev pub Follows : Moved → Step → Type 0
 Follows m st = (m.next ≡ st.next) × (heard m.sends ≡ heard st.sends)
 
 -- what is sent to a desk that presses (`on` is 1) or no longer does
-abbrev pub press_sends : ℕ → ℕ → Call → PressSends
+abbrev pub press_sends : ℕ → ℕ → Option Call → PressSends
 press_sends on m k = record { answer = to m (PressAnswer on); talk = to m (PressNotice (kind_of k) on) }
 
 -- what is sent when a mobile starts to talk (`on` is 1) or ends
-abbrev pub mobile_sends : ℕ → ℕ → ℕ → Number → ℕ → MobileSends
-mobile_sends on k b n m =
-    record { incoming = to m (Incoming on); arrival = to m (BaseArrival k b n on); talk = to m (CallerNotice k b n on) }
+abbrev pub mobile_sends : ℕ → Arrival → MobileSends
+mobile_sends on a =
+    record { incoming = to a.recipients (Incoming on); arrival = to a.recipients (BaseArrival a.kind a.base a.number on); talk = to a.recipients (CallerNotice a.kind a.base a.number on) }

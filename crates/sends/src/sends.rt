@@ -1,74 +1,79 @@
 // What the rules send. A send to the empty set stands where a rule sends nothing.
 ghost use Rattle.std.specs.Prelude.{◌≡◌, [], ◌∷◌};
-ghost use Rattle.channel.specs.State.{holder_place};
+ghost use Rattle.channel.specs.State.{only, holder_place};
 ghost use Rattle.line_rules.specs.Rules.{step, to, sent_if, kind_of, call_sends, start_of, opening_sends, end_of, mobile_off_sends, ring_off_sends};
 ghost use Rattle.sends.specs.Scripts.{Follows, heard, press_sends, mobile_sends};
 ghost use Rattle.channel.specs.declared.state.Notice.TheVariants.{CaptureState};
 
-use channel::{Arrival, Call, Channel, Moved, NOBODY, Notice, Party, Send, holder_place, set_if};
-use telegram::Number;
+use channel::{Arrival, Call, Channel, Moved, NOBODY, Notice, Send, holder_place, only, set_if};
 
 // The type of the talk in a call.
-pub fn kind_of(call: Call) -> u8
+pub fn kind_of(call: Option<Call>) -> u8
     ensures { result ≡ kind_of call }
 {
     match call {
-        Call::Closed => Call::GENERAL,
-        Call::Open { kind, .. } => kind,
+        None => Call::GENERAL,
+        Some(open) => open.kind,
     }
 }
 
-// Stands where a rule sends nothing.
+// Stands where a rule sends nothing: written out in each script, since a helper that fills a script up would copy in a loop.
 pub const SILENT: Send = Send {
     recipients: NOBODY,
     notice: Notice::PressAnswer { on: 0 },
 };
 
+// What one desk alone is told.
+pub fn to_desk(d: u8, notice: Notice) -> Send
+    ensures { result ≡ to (only d) notice }
+{
+    Send {
+        recipients: only(d),
+        notice,
+    }
+}
+
 // The start of a call (`start` is 1) or its end.
-fn of_call(start: u8, reason: u8, call: Call) -> Send
+#[tactic(auto, unfolding(crate::specs::Scripts::heard))]
+fn of_call(start: u8, reason: u8, call: Option<Call>) -> Send
     ensures { heard (result ∷ []) ≡ heard (call_sends start reason call) }
 {
-    match call {
-        Call::Closed => SILENT,
-        Call::Open {
-            kind,
-            direction,
-            recipients,
-            base,
-            source,
-        } => Send {
-            recipients,
-            notice: Notice::Call {
-                kind,
-                direction,
-                base,
-                source,
-                start,
-                reason,
-            },
+    let Some(open) = call else {
+        return SILENT;
+    };
+    Send {
+        recipients: open.recipients,
+        notice: Notice::Call {
+            kind: open.kind,
+            direction: open.direction,
+            base: open.base,
+            source: open.source,
+            start,
+            reason,
         },
     }
 }
 
 // The start of a call, if one is open.
-pub fn start(call: Call) -> Send
+pub fn start(call: Option<Call>) -> Send
     ensures { heard (result ∷ []) ≡ heard (start_of call) }
 {
     of_call(1, 0, call)
 }
 
 // The start that goes with `opened_by`: none while a call is open.
-pub fn opening(call: Call, new: Call) -> Send
+#[tactic(auto, unfolding(crate::specs::Scripts::heard))]
+pub fn opening(call: Option<Call>, new: Call) -> Send
     ensures { heard (result ∷ []) ≡ heard (opening_sends call new) }
 {
     match call {
-        Call::Closed => of_call(1, 0, new),
-        Call::Open { .. } => SILENT,
+        None => of_call(1, 0, Some(new)),
+        Some(_) => SILENT,
     }
 }
 
 // The end of a call, if one is open.
-pub fn end(reason: u8, call: Call) -> Send
+pub fn end(reason: u8, call: Option<Call>) -> Send
     ensures { heard (result ∷ []) ≡ heard (end_of reason call) }
 {
     of_call(0, reason, call)
@@ -81,7 +86,7 @@ pub struct PressSends {
     pub talk: Send,
 }
 
-pub fn press_sends(on: u8, recipients: u8, call: Call) -> PressSends
+pub fn press_sends(on: u8, recipients: u8, call: Option<Call>) -> PressSends
     ensures { result ≡ press_sends on recipients call }
 {
     let kind = kind_of(call);
@@ -105,29 +110,29 @@ pub struct MobileSends {
     pub talk: Send,
 }
 
-pub fn mobile_sends(on: u8, kind: u8, base: u8, number: Number, recipients: u8) -> MobileSends
-    ensures { result ≡ mobile_sends on kind base number recipients }
+pub fn mobile_sends(on: u8, arrival: Arrival) -> MobileSends
+    ensures { result ≡ mobile_sends on arrival }
 {
     MobileSends {
         incoming: Send {
-            recipients,
+            recipients: arrival.recipients,
             notice: Notice::Incoming { on },
         },
         arrival: Send {
-            recipients,
+            recipients: arrival.recipients,
             notice: Notice::BaseArrival {
-                kind,
-                base,
-                number,
+                kind: arrival.kind,
+                base: arrival.base,
+                number: arrival.number,
                 order: on,
             },
         },
         talk: Send {
-            recipients,
+            recipients: arrival.recipients,
             notice: Notice::CallerNotice {
-                kind,
-                base,
-                number,
+                kind: arrival.kind,
+                base: arrival.base,
+                number: arrival.number,
                 order: on,
             },
         },
@@ -135,17 +140,17 @@ pub fn mobile_sends(on: u8, kind: u8, base: u8, number: Number, recipients: u8) 
 }
 
 // What ends an arrival, if there is one.
-pub fn mobile_off_sends(arrival: Arrival) -> MobileSends
+#[tactic(auto, unfolding(crate::specs::Scripts::heard))]
+pub fn mobile_off_sends(arrival: Option<Arrival>) -> MobileSends
     ensures { heard (result.incoming ∷ result.arrival ∷ result.talk ∷ []) ≡ heard (mobile_off_sends arrival) }
 {
     match arrival {
-        Arrival::Absent => mobile_sends(0, Call::GENERAL, 0, Number::NONE, NOBODY),
-        Arrival::Present {
-            kind,
-            recipients,
-            base,
-            number,
-        } => mobile_sends(0, kind, base, number, recipients),
+        None => MobileSends {
+            incoming: SILENT,
+            arrival: SILENT,
+            talk: SILENT,
+        },
+        Some(talking) => mobile_sends(0, talking),
     }
 }
 
@@ -157,27 +162,26 @@ pub struct RingSends {
 }
 
 // What ends a ring, if a mobile rings: its call was told to the called desk.
-pub fn ring_off_sends(ringing: bool, call: Call) -> RingSends
+#[tactic(auto, unfolding(crate::specs::Scripts::heard))]
+pub fn ring_off_sends(ringing: bool, call: Option<Call>) -> RingSends
     ensures { heard (result.incoming ∷ result.result ∷ []) ≡ heard (sent_if ringing (ring_off_sends call)) }
 {
-    match call {
-        Call::Closed => RingSends {
+    let Some(ring) = call else {
+        return RingSends {
             incoming: SILENT,
             result: SILENT,
+        };
+    };
+    let recipients = set_if(ringing, ring.recipients);
+    RingSends {
+        incoming: Send {
+            recipients,
+            notice: Notice::Incoming { on: 0 },
         },
-        Call::Open { recipients, .. } => {
-            let called = set_if(ringing, recipients);
-            RingSends {
-                incoming: Send {
-                    recipients: called,
-                    notice: Notice::Incoming { on: 0 },
-                },
-                result: Send {
-                    recipients: called,
-                    notice: Notice::CallResult { result: 0 },
-                },
-            }
-        }
+        result: Send {
+            recipients,
+            notice: Notice::CallResult { result: 0 },
+        },
     }
 }
 
@@ -195,7 +199,7 @@ pub fn taken(recipients: u8, d: u8) -> Send
 }
 
 // That the channel is free. It has the place of who had it, for the same reason.
-pub fn freed(recipients: u8, holder: Party) -> Send
+pub fn freed(recipients: u8, holder: Option<u8>) -> Send
     ensures { result ≡ to recipients (CaptureState (holder_place holder) 0) }
 {
     let place = holder_place(holder);
@@ -209,12 +213,12 @@ pub fn freed(recipients: u8, holder: Party) -> Send
 }
 
 // What a rule gives that sends one thing at most.
+#[tactic(auto, unfolding(crate::specs::Scripts::heard))]
 pub fn alone(next: Channel, send: Send) -> Moved
     ensures { Follows result (step next (send ∷ [])) }
 {
-    let silent = SILENT;
     Moved {
         next,
-        sends: [send, silent, silent, silent, silent, silent, silent],
+        sends: [send, SILENT, SILENT, SILENT, SILENT, SILENT, SILENT],
     }
 }

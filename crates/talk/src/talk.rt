@@ -6,7 +6,7 @@ use super::choices::{
     DESK, mobile_recipients, new_call, opened_by, quiet_after_mobile, quiet_after_press,
     release_after,
 };
-use channel::{Arrival, Call, Channel, Moved, Party, only, set_of};
+use channel::{Arrival, Call, Channel, Moved, only, set_of};
 use sends::{SILENT, kind_of, mobile_off_sends, mobile_sends, opening, press_sends};
 use telegram::Number;
 
@@ -14,98 +14,73 @@ use telegram::Number;
 pub fn press_on(d: u8, number: Number, channel: Channel) -> Moved
     ensures { Follows result (press_on d number channel) }
 {
-    let holder = channel.holder;
-    let before = channel.call;
-    let arrival = channel.arrival;
     let recipients = only(d);
     let new = new_call(Call::DOWN, recipients, DESK, number);
-    let on = press_sends(1, recipients, before);
-    let answer = on.answer;
-    let start = opening(before, new);
-    let talk = on.talk;
-    let call = opened_by(before, new);
+    let on = press_sends(1, recipients, channel.call);
+    let start = opening(channel.call, new);
+    let call = opened_by(channel.call, new);
     let quiet = 0;
-    let silent = SILENT;
     Moved {
         next: Channel {
-            code: channel.code,
-            entitled: channel.entitled,
-            holder,
-            presser: Party::By(d),
+            presser: Some(d),
             quiet,
             release: Channel::RELEASE,
-            ring: channel.ring,
             call,
-            arrival,
+            ..channel
         },
-        sends: [answer, start, talk, silent, silent, silent, silent],
+        sends: [on.answer, start, on.talk, SILENT, SILENT, SILENT, SILENT],
     }
 }
 
 pub fn press_off(channel: Channel) -> Moved
     ensures { Follows result (press_off channel) }
 {
-    let holder = channel.holder;
-    let presser = channel.presser;
-    let call = channel.call;
-    let arrival = channel.arrival;
-    let off = press_sends(0, set_of(presser), call);
-    let answer = off.answer;
-    let talk = off.talk;
-    let quiet = quiet_after_press(arrival, channel.quiet);
+    let off = press_sends(0, set_of(channel.presser), channel.call);
+    let quiet = quiet_after_press(channel.arrival, channel.quiet);
     let release = Channel::RELEASE;
-    let silent = SILENT;
     Moved {
         next: Channel {
-            code: channel.code,
-            entitled: channel.entitled,
-            holder,
-            presser: Party::Nobody,
+            presser: None,
             quiet,
             release,
-            ring: channel.ring,
-            call,
-            arrival,
+            ..channel
         },
-        sends: [answer, talk, silent, silent, silent, silent, silent],
+        sends: [off.answer, off.talk, SILENT, SILENT, SILENT, SILENT, SILENT],
     }
 }
 
 pub fn mobile_on(listeners: u8, base: u8, number: Number, channel: Channel) -> Moved
     ensures { Follows result (mobile_on listeners base number channel) }
 {
-    let holder = channel.holder;
-    let presser = channel.presser;
-    let before = channel.call;
-    let recipients = mobile_recipients(holder, listeners);
-    let kind = kind_of(before);
+    let recipients = mobile_recipients(channel.holder, listeners);
+    let arrival = Arrival {
+        kind: kind_of(channel.call),
+        recipients,
+        base,
+        number,
+    };
     let new = new_call(Call::UP, recipients, base as u16, number);
-    let on = mobile_sends(1, kind, base, number, recipients);
-    let incoming = on.incoming;
-    let arrival = on.arrival;
-    let start = opening(before, new);
-    let talk = on.talk;
-    let call = opened_by(before, new);
-    let left = release_after(holder, channel.release);
-    let silent = SILENT;
+    let on = mobile_sends(1, arrival);
+    let start = opening(channel.call, new);
+    let call = opened_by(channel.call, new);
+    let left = release_after(channel.holder, channel.release);
     Moved {
         next: Channel {
-            code: channel.code,
-            entitled: channel.entitled,
-            holder,
-            presser,
             quiet: 0,
             release: left,
-            ring: channel.ring,
             call,
-            arrival: Arrival::Present {
-                kind,
-                recipients,
-                base,
-                number,
-            },
+            arrival: Some(arrival),
+            ..channel
         },
-        sends: [incoming, arrival, start, talk, silent, silent, silent],
+        sends: [
+            on.incoming,
+            on.arrival,
+            start,
+            on.talk,
+            SILENT,
+            SILENT,
+            SILENT,
+        ],
     }
 }
 
@@ -113,29 +88,24 @@ pub fn mobile_on(listeners: u8, base: u8, number: Number, channel: Channel) -> M
 pub fn mobile_off(channel: Channel) -> Moved
     ensures { Follows result (mobile_off channel) }
 {
-    let holder = channel.holder;
-    let presser = channel.presser;
-    let call = channel.call;
-    let present = channel.arrival;
-    let off = mobile_off_sends(present);
-    let incoming = off.incoming;
-    let arrival = off.arrival;
-    let talk = off.talk;
-    let quiet = quiet_after_mobile(call, presser, channel.quiet);
-    let release = release_after(holder, channel.release);
-    let silent = SILENT;
+    let off = mobile_off_sends(channel.arrival);
+    let quiet = quiet_after_mobile(channel.call, channel.presser, channel.quiet);
+    let release = release_after(channel.holder, channel.release);
     Moved {
         next: Channel {
-            code: channel.code,
-            entitled: channel.entitled,
-            holder,
-            presser,
             quiet,
             release,
-            ring: channel.ring,
-            call,
-            arrival: Arrival::Absent,
+            arrival: None,
+            ..channel
         },
-        sends: [incoming, arrival, talk, silent, silent, silent, silent],
+        sends: [
+            off.incoming,
+            off.arrival,
+            off.talk,
+            SILENT,
+            SILENT,
+            SILENT,
+            SILENT,
+        ],
     }
 }

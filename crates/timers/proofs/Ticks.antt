@@ -1,16 +1,12 @@
 -- A tick by the timer that runs out, and how the tests of the code tell what a tick does to the timers.
 -- Assumes nothing.
 use Prim.Native.Nat.{ℕ, ◌-◌, ◌<◌, ◌≤◌}
-use mathlib.Core.List.{[], ◌∷◌}
 use mathlib.Core.Bool.{Bool, true, false, cond, ◌||◌}
 use mathlib.Core.Path.{◌≡◌, refl}
 use borrow.Author.Tests.{lt-ltb, le-ltb, lt-leb, le-leb, eqb-false, ltb-true}
 use native.Mathlib.Omega.{arith}
 use lib.Dec.{eqb, leb, ltb}
-use types.Run.{OneOf, miss}
-use denote.Enum.Declared.{tag_of}
 use Rattle.laws.proofs.Tests.{neither}
-use Rattle.channel.specs.contracts.state.Falling as falling-type
 use Rattle.channel.specs.State.{is_held, is_present}
 use Rattle.line_rules.specs.Rules.{Step, is_pressed, is_ringing}
 use Rattle.timers.specs.Falls.{falling, may_fall, is_due}
@@ -48,14 +44,6 @@ not-due false k false true t l h w q r e f = refl
 not-due false k false false true l h w q r e f = rw (f refl) refl
 not-due false k false false false l true w q r e f = refl
 not-due false k false false false l false w q r e f = refl
-
--- 0 to 3 are the cases in which no timer runs out
-pub none-due : (f : Falling) → OneOf (0 ∷ 1 ∷ 2 ∷ 3 ∷ []) (tag_of falling-type.the_type f) → is_due f ≡ false
-none-due Still o = refl
-none-due (Ring r) o = refl
-none-due (Quiet q) o = refl
-none-due (Release r) o = refl
-none-due Due o = absurd (miss (0 ∷ 1 ∷ 2 ∷ 3 ∷ []) 4 tt o)
 
 -- a timer that does not have one second left is stopped or has more
 more : (x : ℕ) → eqb x 1 ≡ false → ltb 0 x ≡ true → leb x 1 ≡ false

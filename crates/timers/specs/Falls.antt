@@ -1,9 +1,7 @@
 -- A tick as the code goes about it, by what it does to the timers. That it is the rule is promised: `ByTimers` (`Promises.antt`).
-use Rattle.std.specs.Prelude.{ℕ, ◌-◌, [], Bool, true, false, cond, ◌||◌, leb, ltb}
+use Rattle.std.specs.Prelude.{ℕ, ◌-◌, [], Bool, true, false, cond, ◌||◌, leb, ltb, None}
 use Rattle.channel.specs.State.{is_held, is_present}
 use Rattle.line_rules.specs.Rules.{Step, step, is_pressed, is_ringing, with_call, with_quiet, with_holder, with_release, with_ring, end_of, freed_sends, unanswered}
-use Rattle.channel.specs.declared.state.Party.TheVariants.{Nobody}
-use Rattle.channel.specs.declared.state.Call.TheVariants.{Closed}
 use Rattle.channel.specs.declared.state.Channel.{Channel}
 use Rattle.channel.specs.declared.state.Falling.{Falling}
 use Rattle.channel.specs.declared.state.Falling.TheVariants.{Still, Ring, Quiet, Release, Due}
@@ -33,8 +31,8 @@ unfoldable pub run_out : ℕ → Channel → Step
 run_out e c =
     cond (is_ringing c) (unanswered 5 c)
     (cond (ltb 0 c.quiet)
-    (step (with_quiet 0 (with_call Closed c)) (end_of 3 c.call))
-    (step (with_holder Nobody (with_release 0 c)) (freed_sends e c)))
+    (step (with_quiet 0 (with_call None c)) (end_of 3 c.call))
+    (step (with_holder None (with_release 0 c)) (freed_sends e c)))
 
 -- a tick, by what it does to the timers
 abbrev pub tick_by : Falling → ℕ → Channel → Step

@@ -1,11 +1,9 @@
 // The timers of a channel: which one falls at a tick, and the channel after it.
 ghost use Rattle.std.specs.Prelude.{◌≡◌, ℕ};
-ghost use Rattle.line_rules.specs.Rules.{with_holder, with_call, tick};
+ghost use Rattle.line_rules.specs.Rules.{tick};
 ghost use Rattle.timers.specs.Falls.{falling, may_fall, is_due, run_out};
-ghost use Rattle.channel.specs.declared.state.Call.TheVariants.{Closed};
-ghost use Rattle.channel.specs.declared.state.Party.TheVariants.{Nobody};
 
-use channel::{Call, Channel, Falling, Party, is_held, is_present};
+use channel::{Channel, Falling, is_held, is_present};
 
 // What a tick does to the timers, asked in the rule's order.
 pub fn falls(channel: Channel) -> Falling
@@ -17,9 +15,7 @@ pub fn falls(channel: Channel) -> Falling
         }
         return Falling::Due;
     }
-    let presser = channel.presser;
-    let arrival = channel.arrival;
-    let talks = is_held(presser) | is_present(arrival);
+    let talks = is_held(channel.presser) | is_present(channel.arrival);
     if talks {
         return Falling::Still;
     }
@@ -29,8 +25,7 @@ pub fn falls(channel: Channel) -> Falling
         }
         return Falling::Due;
     }
-    let holder = channel.holder;
-    if !is_held(holder) {
+    if !is_held(channel.holder) {
         return Falling::Still;
     }
     if 1 < channel.release {
@@ -43,8 +38,7 @@ pub fn falls(channel: Channel) -> Falling
 pub fn may_fall(channel: Channel) -> bool
     ensures { result ≡ may_fall channel }
 {
-    let holder = channel.holder;
-    (0 < channel.quiet) | (0 < channel.ring) | is_held(holder)
+    (0 < channel.quiet) | (0 < channel.ring) | is_held(channel.holder)
 }
 
 // Whether a timer runs out. Most have more than a second left, and then it is not asked whether anyone talks.
@@ -54,88 +48,52 @@ pub fn is_due(channel: Channel) -> bool
     if (channel.ring != 1) & (channel.quiet != 1) & (1 < channel.release) {
         return false;
     }
-    let falling = falls(channel);
-    match falling {
-        Falling::Still | Falling::Ring(_) | Falling::Quiet(_) | Falling::Release(_) => false,
-        Falling::Due => true,
-    }
-}
-
-// The channel without its call.
-fn closed(channel: Channel) -> Channel
-    ensures { result ≡ with_call Closed channel }
-{
-    let holder = channel.holder;
-    let presser = channel.presser;
-    let arrival = channel.arrival;
-    Channel {
-        code: channel.code,
-        entitled: channel.entitled,
-        holder,
-        presser,
-        quiet: channel.quiet,
-        release: channel.release,
-        ring: channel.ring,
-        call: Call::Closed,
-        arrival,
-    }
-}
-
-// The channel without its holder.
-fn freed(channel: Channel) -> Channel
-    ensures { result ≡ with_holder Nobody channel }
-{
-    let presser = channel.presser;
-    let call = channel.call;
-    let arrival = channel.arrival;
-    Channel {
-        code: channel.code,
-        entitled: channel.entitled,
-        holder: Party::Nobody,
-        presser,
-        quiet: channel.quiet,
-        release: channel.release,
-        ring: channel.ring,
-        call,
-        arrival,
-    }
+    matches!(falls(channel), Falling::Due)
 }
 
 // The channel after a timer ran out: its call is gone, or its holder.
-pub fn run_out(mut channel: Channel) -> Channel
+pub fn run_out(channel: Channel) -> Channel
     ensures { (e : ℕ) → result ≡ (run_out e channel).next }
 {
     if 0 < channel.ring {
-        channel.ring = 0;
-        return closed(channel);
+        return Channel {
+            ring: 0,
+            call: None,
+            ..channel
+        };
     }
     if 0 < channel.quiet {
-        channel.quiet = 0;
-        return closed(channel);
+        return Channel {
+            quiet: 0,
+            call: None,
+            ..channel
+        };
     }
-    channel.release = 0;
-    freed(channel)
+    Channel {
+        release: 0,
+        holder: None,
+        ..channel
+    }
 }
 
 // The channel after a tick.
-pub fn ticked(mut channel: Channel) -> Channel
+pub fn ticked(channel: Channel) -> Channel
     ensures { (e : ℕ) → result ≡ (tick e channel).next }
 {
-    let falling = falls(channel);
-    match falling {
+    match falls(channel) {
         Falling::Still => channel,
-        Falling::Ring(left) => {
-            channel.ring = left;
-            channel
-        }
-        Falling::Quiet(left) => {
-            channel.quiet = left;
-            channel
-        }
-        Falling::Release(left) => {
-            channel.release = left;
-            channel
-        }
+        Falling::Ring(left) => Channel {
+            ring: left,
+            ..channel
+        },
+        Falling::Quiet(left) => Channel {
+            quiet: left,
+            ..channel
+        },
+        Falling::Release(left) => Channel {
+            release: left,
+            ..channel
+        },
         Falling::Due => run_out(channel),
     }
 }

@@ -11,6 +11,6 @@ unfolding end_call
 returns c =
     let c₃ = c in
     let off = c₃.ring_off_sends-off.ensures in (
-      c.new-next.ensures,
+      c.new.ensures,
       simp (send-by-send, sym off, heard-sent_if, sym c₃.end-end.ensures, c.freed-state.ensures, c.set_if-recipients.ensures, c₃.is_held.ensures) refl,
     )

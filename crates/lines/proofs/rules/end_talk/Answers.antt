@@ -11,4 +11,4 @@ unfolding end_talk
 returns c =
     let c₄ = c in
     let c₇ = c in
-    (c.new-next.ensures, simp (send-by-send, heard_press_off, c₇.press_sends-press.ensures, c₇.set_of.ensures, sym c₄.mobile_off_sends-mobile.ensures) refl)
+    (c.new.ensures, simp (send-by-send, heard_press_off, c₇.press_sends-press.ensures, c₇.set_of.ensures, sym c₄.mobile_off_sends-mobile.ensures) refl)

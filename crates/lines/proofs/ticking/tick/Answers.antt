@@ -14,4 +14,4 @@ unfolding heard
 returns c =
     let x = c.args in
     let none = silent_unless_due x.listeners x.channel (sym c.is_due.ensures ∙ c.if-is_due.false) in
-    (c.alone.ensures.0 ∙ c.ticked-next.ensures _, rw none c.alone.ensures.1)
+    (c.alone.ensures.0 ∙ c.ticked.ensures _, rw none c.alone.ensures.1)

@@ -1,12 +1,8 @@
 -- `plain_set::convert::channels_in` meets its contract: a channel a turn.
 -- Assumes nothing.
-use Prim.Native.Nat.{◌-◌}
 use Rattle.plain_set.specs.Plain.{channel_in}
 use Rattle.plain_set.proofs.Maps.{Mapped}
 use Rattle.plain_set.proofs.convert.channels_in.Given as goal
 
 abbrev pub invariant-loop-i : goal.invariant-loop-i
 invariant-loop-i l = Mapped channel_in 32 l.plain l.i l.channels
-
-abbrev pub decreases-loop-i : goal.decreases-loop-i
-decreases-loop-i l = 32 - l.i

@@ -8,7 +8,7 @@ pub loop-i-init : goal.loop-i-init
 loop-i-init c = map-start (search rules) (search rules)
 
 pub loop-i-preserved : goal.loop-i-preserved
-loop-i-preserved c = map_next c.loop-i.invariant c.loop-i-test.true _ c.channel_of-p.ensures
+loop-i-preserved c = map_next c.loop-i.invariant c.loop-i-test.true _ c.channel_of.ensures
 
 pub returns : goal.returns
 returns c = map-done c.loop-i.invariant c.loop-i-test.false

@@ -8,6 +8,6 @@ use Rattle.rings.proofs.rings.unanswered.Goals as goal
 pub returns : goal.returns
 unfolding unanswered
 returns c = (
-  c.with_ring-next.ensures,
+  c.with_ring.ensures,
   simp (send-by-send, sym c.ring_off_sends-off.ensures, sym c.end-end.ensures) refl,
 )

@@ -10,7 +10,7 @@ unfolding mobile_on
 returns c =
     let on = c.mobile_sends-on.ensures in
     let new = c.new_call-new.ensures in
-    let k = c.kind_of-kind.ensures in
+    let k = c.kind_of.ensures in
     let m = c.mobile_recipients-recipients.ensures in (
       simp (c.release_after-left.ensures, c.opened_by-call.ensures, new, k, m) refl,
       simp (send-by-send, on, sym (rw (new, m) at c.opening-start.ensures), k, m) refl,

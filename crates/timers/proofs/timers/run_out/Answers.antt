@@ -8,12 +8,12 @@ use Rattle.timers.proofs.timers.run_out.Goals as goal
 
 pub returns-then-channel-gt0 : goal.returns-then-channel-gt0
 unfolding run_out unanswered
-returns-then-channel-gt0 c x = simp (lt-ltb _ _ c.if-channel-gt0.true, c.closed.ensures) refl
+returns-then-channel-gt0 c x = simp (lt-ltb _ _ c.if-channel-gt0.true) refl
 
 pub returns-then-channel-gt0-2 : goal.returns-then-channel-gt0-2
 unfolding run_out
-returns-then-channel-gt0-2 c x = simp (le-ltb _ _ c.if-channel-gt0.false, lt-ltb _ _ c.if-channel-gt0-2.true, c.closed-then-channel-gt0-2.ensures) refl
+returns-then-channel-gt0-2 c x = simp (le-ltb _ _ c.if-channel-gt0.false, lt-ltb _ _ c.if-channel-gt0-2.true) refl
 
 pub returns : goal.returns
 unfolding run_out
-returns c x = simp (le-ltb _ _ c.if-channel-gt0.false, le-ltb _ _ c.if-channel-gt0-2.false, c.freed.ensures) refl
+returns c x = simp (le-ltb _ _ c.if-channel-gt0.false, le-ltb _ _ c.if-channel-gt0-2.false) refl
