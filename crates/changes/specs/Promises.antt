@@ -1,16 +1,17 @@
 -- What is promised of entries about one desk's link or one channel, beside the contracts. `proofs/Kept.antt` has the proof of
 -- each under the name given with it, and is the one module of the proofs that other crates cite.
-use Rattle.std.specs.Prelude.{ℕ, List, Bool, ◌≡◌}
+use Rattle.std.specs.Prelude.{ℕ, List, Bool, ◌≡◌, Ok, Err}
 use Rattle.channel.specs.declared.state.Channel.{Channel}
 use Rattle.channel.specs.declared.state.Send.{Send}
 use Rattle.sends.specs.Scripts.{heard}
 use Rattle.set_rules.specs.Records.{delivered, records_of, space_of}
 use Rattle.set_rules.specs.SetRules.{on_link}
 use Rattle.set_rules.specs.Feeds.{refuse, emit, outcome_of}
+use Rattle.set_state.specs.Entry.{desk_from}
 use Rattle.set_state.specs.declared.state.Desk.{Desk}
 use Rattle.set_state.specs.declared.state.Entry.{Entry}
 use Rattle.set_state.specs.declared.state.LinkRequest.{LinkRequest}
-use Rattle.telegram_requests.specs.declared.request.Asked.TheVariants.{Refusal, OfLink}
+use Rattle.telegram_requests.specs.declared.request.Asked.TheVariants.{OfLink}
 use Rattle.requests.specs.Asking.{seen, asked_of}
 use Rattle.changes.specs.Changes.{set_with}
 
@@ -26,11 +27,11 @@ SameRecords =
 abbrev pub RefusedAs : Type 0
 RefusedAs =
     (planned : Bool) (ds : List Desk) (n : ℕ) (cs : List Channel) (k : ℕ) (e : List ℕ) (x : Entry) (found : Bool) (c : Channel) (m room : ℕ)
-    → Refusal m ≡ asked_of (seen planned ds n found c) e x → refuse m (set_with planned ds n cs k) ≡ outcome_of (set_with planned ds n cs k) e x room
+    → Err m ≡ asked_of (seen planned ds n found c) e (Ok x) → refuse m (set_with planned ds n cs k) ≡ outcome_of (set_with planned ds n cs k) e (Ok x) room
 
 -- One that asks something of a link is what the rule of links gives (`linked_as`).
 abbrev pub LinkedAs : Type 0
 LinkedAs =
     (planned : Bool) (ds : List Desk) (n : ℕ) (cs : List Channel) (k : ℕ) (e : List ℕ) (x : Entry) (found : Bool) (c : Channel) (q : LinkRequest) (room : ℕ)
-    → OfLink q ≡ asked_of (seen planned ds n found c) e x
-    → emit (set_with planned ds n cs k) (on_link (set_with planned ds n cs k) x.desk q) room ≡ outcome_of (set_with planned ds n cs k) e x room
+    → Ok (OfLink q) ≡ asked_of (seen planned ds n found c) e (Ok x)
+    → emit (set_with planned ds n cs k) (on_link (set_with planned ds n cs k) (desk_from x) q) room ≡ outcome_of (set_with planned ds n cs k) e (Ok x) room

@@ -3,28 +3,17 @@ ghost use Rattle.std.specs.Prelude.{ℕ, ◌≡◌};
 ghost use Rattle.sends.specs.Scripts.{Follows};
 ghost use Rattle.set_rules.specs.SetRules.{moved_in, on_channel};
 ghost use Rattle.set_rules.specs.Feeds.{emit};
-ghost use Rattle.changes.specs.Changes.{unchanged, InSets};
+ghost use Rattle.changes.specs.Changes.{InSets};
 
 use super::lookup;
 use channel::{Channel, Event, Moved};
-use set_state::Desk;
+use set_state::{Desk, Refusal};
 
-// The channel after an entry, the bytes written, and the refusal number. A refusal changes nothing.
+// The channel after an entry, and the bytes written.
 #[derive(Clone, Copy)]
 pub struct Change {
     pub channel: Channel,
     pub count: usize,
-    pub refusal: u8,
-}
-
-pub fn refuse(channel: Channel, refusal: u8) -> Change
-    ensures { result ≡ unchanged channel refusal }
-{
-    Change {
-        channel,
-        count: 0,
-        refusal,
-    }
 }
 
 // An event on a channel of a set with these desks, of which the plan has n.
@@ -36,20 +25,25 @@ pub fn moved(desks: [Desk; 4], n: u8, event: Event, c: Channel) -> Moved
 }
 
 // An event on the channel, and its records if there is room.
-pub fn on_channel(desks: [Desk; 4], n: u8, event: Event, c: Channel, buffer: &mut [u8]) -> Change
+pub fn on_channel(
+    desks: [Desk; 4],
+    n: u8,
+    event: Event,
+    c: Channel,
+    buffer: &mut [u8],
+) -> Result<Change, Refusal>
     ensures { (ch : ℕ) → InSets desks n ch c (λ s. emit s (on_channel s ch event)) result buffer.old buffer.new }
 {
     let m = moved(desks, n, event, c);
     let sends = m.sends;
     let need = bodies::space(sends);
     if buffer.len() < need {
-        return refuse(c, 16);
+        return Err(Refusal::NoRoom);
     }
     records::put(buffer, 0, desks, c.code, sends);
     let next = m.next;
-    Change {
+    Ok(Change {
         channel: next,
         count: need,
-        refusal: 0,
-    }
+    })
 }

@@ -1,11 +1,12 @@
 // What an entry about one channel changes: it is judged, and then happens there.
 ghost use Rattle.std.specs.Prelude.{◌≡◌};
+ghost use Rattle.set_state.specs.Entry.{refusal_in};
 ghost use Rattle.changes.specs.Changes.{Hears, RefusedWith, event_for, AnswersTo};
 
 use super::change::Change;
 use super::{change, lookup};
 use channel::{Channel, Event};
-use set_state::{Desk, Entry};
+use set_state::{Desk, Entry, Refusal};
 use telegram_requests::LineRequest;
 
 // Whether the desk that a mobile rings listens on the channel. It is asked of no other event.
@@ -21,7 +22,7 @@ fn is_heard(desks: [Desk; 4], n: u8, event: Event, c: Channel) -> bool
     }
 }
 
-// The refusal of what is asked of a channel, 0 if there is none but for the room.
+// Whether what is asked of a channel is refused, but for the room.
 fn refusal_of(
     desks: [Desk; 4],
     n: u8,
@@ -29,8 +30,8 @@ fn refusal_of(
     request: LineRequest,
     found: bool,
     c: Channel,
-) -> u8
-    ensures { RefusedWith desks n x request found c result }
+) -> Result<(), Refusal>
+    ensures { RefusedWith desks n x request found c (refusal_in result) }
 {
     match request {
         LineRequest::OnChannel {
@@ -38,16 +39,16 @@ fn refusal_of(
             number,
             event,
         } => {
-            let desk = set_state::desk_at(desks, x.desk);
+            let desk = set_state::desk_at(desks, x.desk());
             let own = desk.number;
             let heard = is_heard(desks, n, event, c);
             judging::judge(x, number, own, heard, found, c)
         }
         LineRequest::AnswersRing(answer) => {
-            if judging::may_use(x.desk, found, c) {
-                0
+            if judging::may_use(x.desk(), found, c) {
+                Ok(())
             } else {
-                12
+                Err(Refusal::NotEntitled)
             }
         }
     }
@@ -81,13 +82,10 @@ pub fn change_of(
     found: bool,
     c: Channel,
     buffer: &mut [u8],
-) -> Change
+) -> Result<Change, Refusal>
     ensures { AnswersTo desks n x request found c result buffer.old buffer.new }
 {
-    let refusal = refusal_of(desks, n, x, request, found, c);
-    if refusal != 0 {
-        return change::refuse(c, refusal);
-    }
-    let event = event_of(desks, x.desk, request, c);
+    refusal_of(desks, n, x, request, found, c)?;
+    let event = event_of(desks, x.desk(), request, c);
     change::on_channel(desks, n, event, c, buffer)
 }

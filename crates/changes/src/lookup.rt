@@ -32,14 +32,8 @@ pub fn linked(desks: [Desk; 4], d: u8, link: Link) -> [Desk; 4]
 {
     let i = d as usize;
     if i < 4 {
-        let desk = desks[i];
-        let number = desk.number;
         let mut after = desks;
-        after[i] = Desk {
-            code: desk.code,
-            number,
-            link,
-        };
+        after[i].link = link;
         return after;
     }
     desks

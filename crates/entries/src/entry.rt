@@ -1,75 +1,50 @@
 // Entries: the length, the version, the kind, and what the kind's payload has.
 ghost use Rattle.std.specs.Prelude.{◌≡◌, leb};
-ghost use Rattle.numerals.specs.declared.digits.Digits.TheVariants.{Malformed};
-ghost use Rattle.set_rules.specs.Entries.{measured, bad, asks, read_entry};
+ghost use Rattle.set_rules.specs.Entries.{measured, read_entry};
 ghost use Rattle.entries.specs.Payloads.{payload_in, line_in, bare_in};
 
-use numerals::Digits;
-use set_state::Entry;
-
-// An entry that is refused asks for nothing.
-fn refused(number: u8) -> Entry
-    ensures { result ≡ bad number }
-{
-    Entry {
-        refusal: number,
-        kind: 0,
-        desk: 0,
-        channel: 0,
-        on: 0,
-        base: 0,
-        number: Digits::Malformed,
-        called: Digits::Malformed,
-    }
-}
-
-// An entry with a desk, a channel and on. A kind that lacks one of them has 0 there.
-fn asks(kind: u8, desk: u8, channel: u8, on: u8) -> Entry
-    ensures { result ≡ asks kind desk channel on 0 Malformed }
-{
-    Entry {
-        refusal: 0,
-        kind,
-        desk,
-        channel,
-        on,
-        base: 0,
-        number: Digits::Malformed,
-        called: Digits::Malformed,
-    }
-}
+use set_state::{Entry, Refusal};
 
 // The telegram itself stays in the bytes.
-fn read_telegram(entry: &[u8]) -> Entry
+fn read_telegram(entry: &[u8]) -> Result<Entry, Refusal>
     ensures { result ≡ payload_in 1 entry.now }
 {
     if entry.len() < 5 {
-        return refused(3);
+        return Err(Refusal::Payload);
     }
-    asks(1, entry[4], 0, 0)
+    Ok(Entry::Telegram { desk: entry[4] })
 }
 
-fn read_press(entry: &[u8]) -> Entry
+fn read_press(entry: &[u8]) -> Result<Entry, Refusal>
     ensures { result ≡ payload_in 2 entry.now }
 {
     if entry.len() != 7 {
-        return refused(3);
+        return Err(Refusal::Payload);
     }
     let on = entry[6];
     let unknown = 1 < on;
     if unknown {
-        return refused(3);
+        return Err(Refusal::Payload);
     }
-    asks(2, entry[4], entry[5], on)
+    let desk = entry[4];
+    let channel = entry[5];
+    Ok(Entry::Press {
+        desk,
+        channel,
+        on: on == 1,
+    })
 }
 
-fn read_cut(entry: &[u8]) -> Entry
+fn read_cut(entry: &[u8]) -> Result<Entry, Refusal>
     ensures { result ≡ payload_in 3 entry.now }
 {
     if entry.len() != 6 {
-        return refused(3);
+        return Err(Refusal::Payload);
     }
-    asks(3, entry[4], entry[5], 0)
+    Ok(Entry::Cut {
+        desk: entry[4],
+        channel: entry[5],
+    })
 }
 
 // There are 30 bases.
@@ -80,78 +55,70 @@ fn is_base(base: u8) -> bool
 }
 
 // A number that is no eight digits is refused later, by 13.
-fn read_mobile_on(entry: &[u8]) -> Entry
+fn read_mobile_on(entry: &[u8]) -> Result<Entry, Refusal>
     ensures { result ≡ payload_in 4 entry.now }
 {
     if entry.len() != 14 {
-        return refused(3);
+        return Err(Refusal::Payload);
     }
     let channel = entry[4];
     let base = entry[5];
     if !is_base(base) {
-        return refused(3);
+        return Err(Refusal::Payload);
     }
     let number = numerals::read_digits(&entry[6..14]);
-    Entry {
-        refusal: 0,
-        kind: 4,
-        desk: 0,
+    Ok(Entry::MobileOn {
         channel,
-        on: 0,
         base,
         number,
-        called: Digits::Malformed,
-    }
+    })
 }
 
 // The mobile's number and the called one are judged later, by 13.
-fn read_mobile_call(entry: &[u8]) -> Entry
+fn read_mobile_call(entry: &[u8]) -> Result<Entry, Refusal>
     ensures { result ≡ payload_in 9 entry.now }
 {
-    if entry.len() != 22 {
-        return refused(3);
+    let other = entry.len() != 22;
+    if other {
+        return Err(Refusal::Payload);
     }
     let channel = entry[4];
     let base = entry[5];
     if !is_base(base) {
-        return refused(3);
+        return Err(Refusal::Payload);
     }
     let number = numerals::read_digits(&entry[6..14]);
     let called = numerals::read_digits(&entry[14..22]);
-    Entry {
-        refusal: 0,
-        kind: 9,
-        desk: 0,
+    Ok(Entry::MobileCall {
         channel,
-        on: 0,
         base,
         number,
         called,
-    }
+    })
 }
 
-// A mobile off or a mobile cancel: a channel.
-fn read_line(kind: u8, entry: &[u8]) -> Entry
-    ensures { result ≡ line_in kind entry.now }
+// The channel of a mobile off or a mobile cancel.
+fn read_line(entry: &[u8]) -> Result<u8, Refusal>
+    ensures { result ≡ line_in entry.now }
 {
     if entry.len() != 5 {
-        return refused(3);
+        return Err(Refusal::Payload);
     }
-    asks(kind, 0, entry[4], 0)
+    Ok(entry[4])
 }
 
 // A tick or a handover: no payload.
-fn read_bare(kind: u8, entry: &[u8]) -> Entry
-    ensures { result ≡ bare_in kind entry.now }
+fn read_bare(bare: Entry, entry: &[u8]) -> Result<Entry, Refusal>
+    ensures { result ≡ bare_in bare entry.now }
 {
     if entry.len() != 4 {
-        return refused(3);
+        return Err(Refusal::Payload);
     }
-    asks(kind, 0, 0, 0)
+    Ok(bare)
 }
 
 // A plan is judged later, by 6.
-fn read_payload(kind: u8, entry: &[u8]) -> Entry
+fn read_payload(kind: u8, entry: &[u8]) -> Result<Entry, Refusal>
     ensures { result ≡ payload_in kind entry.now }
 {
     match kind {
@@ -159,13 +126,17 @@ fn read_payload(kind: u8, entry: &[u8]) -> Entry
         2 => read_press(entry),
         3 => read_cut(entry),
         4 => read_mobile_on(entry),
-        5 => read_line(5, entry),
-        6 => read_bare(6, entry),
-        7 => asks(7, 0, 0, 0),
-        8 => read_bare(8, entry),
+        5 => Ok(Entry::MobileOff {
+            channel: read_line(entry)?,
+        }),
+        6 => read_bare(Entry::Tick, entry),
+        7 => Ok(Entry::Plan),
+        8 => read_bare(Entry::Handover, entry),
         9 => read_mobile_call(entry),
-        10 => read_line(10, entry),
-        _ => refused(3),
+        10 => Ok(Entry::MobileCancel {
+            channel: read_line(entry)?,
+        }),
+        _ => Err(Refusal::Payload),
     }
 }
 
@@ -181,15 +152,15 @@ fn is_measured(entry: &[u8]) -> bool
 }
 
 // What an entry's bytes ask for, or refusal 1, 2 or 3.
-pub fn read_entry(entry: &[u8]) -> Entry
+pub fn read_entry(entry: &[u8]) -> Result<Entry, Refusal>
     ensures { result ≡ read_entry entry.now }
 {
     if !is_measured(entry) {
-        return refused(1);
+        return Err(Refusal::Length);
     }
     let other = entry[2] != 1;
     if other {
-        return refused(2);
+        return Err(Refusal::Version);
     }
     read_payload(entry[3], entry)
 }

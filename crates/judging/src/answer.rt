@@ -4,30 +4,30 @@ ghost use Rattle.line_rules.specs.Turns.{told_of_call};
 ghost use Rattle.set_rules.specs.SetRules.{caller_of, answers_ring};
 
 use channel::{Call, Channel};
-use telegram::{Number, RingAnswer};
+use telegram::{Number, Ring};
 
 // Whether a desk is told of a call.
-fn is_told(d: u8, call: Call) -> bool
+fn is_told(d: u8, call: Option<Call>) -> bool
     ensures { result ≡ told_of_call d call }
 {
     match call {
-        Call::Closed => false,
-        Call::Open { recipients, .. } => channel::is_in(d, recipients),
+        None => false,
+        Some(open) => channel::is_in(d, open.recipients),
     }
 }
 
 // The digits of the number that called.
-fn caller_of(call: Call) -> u32
+fn caller_of(call: Option<Call>) -> u32
     ensures { result ≡ caller_of call }
 {
     match call {
-        Call::Closed => 0,
-        Call::Open { source, .. } => source.digits,
+        None => 0,
+        Some(open) => open.source.digits,
     }
 }
 
 // The mobile rings desk d, which has this number, and the answer has what the ring notice had.
-pub fn answers_ring(d: u8, own: Number, answer: RingAnswer, c: Channel) -> bool
+pub fn answers_ring(d: u8, own: Number, answer: Ring, c: Channel) -> bool
     ensures { result ≡ answers_ring d own answer c }
 {
     let call = c.call;
@@ -35,5 +35,5 @@ pub fn answers_ring(d: u8, own: Number, answer: RingAnswer, c: Channel) -> bool
         & is_told(d, call)
         & (answer.kind == Call::INDIVIDUAL as u32)
         & (answer.source.digits == caller_of(call))
-        & (answer.destination.digits == own.digits)
+        & (answer.destination == own)
 }

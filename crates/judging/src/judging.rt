@@ -1,32 +1,29 @@
 // The refusals from 12 on, by the channel that an entry names.
-ghost use Rattle.std.specs.Prelude.{◌≡◌, cond, eqb};
+ghost use Rattle.std.specs.Prelude.{◌≡◌, cond, not};
 ghost use Rattle.channel.specs.State.{is_held};
 ghost use Rattle.set_rules.specs.Refusals.{is_caller, is_idle};
-ghost use Rattle.judging.specs.Judging.{usable, ask_refusal, press_refusal, mobile_refusal, call_refusal, cancel_refusal, refusal_by};
+ghost use Rattle.set_state.specs.Entry.{refusal_in};
+ghost use Rattle.judging.specs.Judging.{usable, ask_refusal, cut_refusal, press_refusal, mobile_on_refusal, mobile_off_refusal, call_refusal, cancel_refusal, refusal_by};
 
-use channel::{Channel, Party};
-use numerals::Digits;
-use set_state::Entry;
+use channel::Channel;
+use set_state::{Entry, Refusal};
 use telegram::Number;
 
-fn is_caller(number: Digits) -> bool
+fn is_caller(number: Option<u32>) -> bool
     ensures { result ≡ is_caller number }
 {
     match number {
-        Digits::Value(v) => v != 0,
-        Digits::Malformed => false,
+        Some(v) => v != 0,
+        None => false,
     }
 }
 
 // Press on while on, or off while off.
-fn is_again(on: u8, presser: Party) -> bool
-    ensures { result ≡ eqb on (cond (is_held presser) 1 0) }
+fn is_again(on: bool, presser: Option<u8>) -> bool
+    ensures { result ≡ cond on (is_held presser) (not (is_held presser)) }
 {
-    if channel::is_held(presser) {
-        on == 1
-    } else {
-        on == 0
-    }
+    let pressed = channel::is_held(presser);
+    if on { pressed } else { !pressed }
 }
 
 // Nobody holds the channel, no call is open on it, and no mobile talks or rings.
@@ -50,95 +47,131 @@ pub fn may_use(d: u8, found: bool, c: Channel) -> bool
 }
 
 // A telegram of desk d about a channel: the number that it gives, and the desk's own.
-fn judge_ask(d: u8, number: Number, own: Number, found: bool, c: Channel) -> u8
-    ensures { result ≡ ask_refusal d number own found c }
+fn judge_ask(d: u8, number: Number, own: Number, found: bool, c: Channel) -> Result<(), Refusal>
+    ensures { refusal_in result ≡ ask_refusal d number own found c }
 {
     if !may_use(d, found, c) {
-        return 12;
+        return Err(Refusal::NotEntitled);
     }
-    if number.digits == own.digits { 0 } else { 13 }
+    if number == own {
+        Ok(())
+    } else {
+        Err(Refusal::WrongNumber)
+    }
 }
 
-// A press or a cut.
-fn judge_press(x: Entry, found: bool, c: Channel) -> u8
-    ensures { result ≡ press_refusal x found c }
+// A cut, and the first tests of a press.
+fn judge_cut(d: u8, found: bool, c: Channel) -> Result<(), Refusal>
+    ensures { refusal_in result ≡ cut_refusal d found c }
 {
-    if !may_use(x.desk, found, c) {
-        return 12;
+    if !may_use(d, found, c) {
+        return Err(Refusal::NotEntitled);
     }
     let holder = c.holder;
-    if !channel::held_by(x.desk, holder) {
-        return 14;
+    if channel::held_by(d, holder) {
+        Ok(())
+    } else {
+        Err(Refusal::NotHolder)
     }
-    if x.kind != 2 {
-        return 0;
-    }
-    let presser = c.presser;
-    if is_again(x.on, presser) { 15 } else { 0 }
 }
 
-// A mobile on or off.
-fn judge_mobile(x: Entry, found: bool, c: Channel) -> u8
-    ensures { result ≡ mobile_refusal x found c }
+fn judge_press(d: u8, on: bool, found: bool, c: Channel) -> Result<(), Refusal>
+    ensures { refusal_in result ≡ press_refusal d on found c }
+{
+    judge_cut(d, found, c)?;
+    let presser = c.presser;
+    if is_again(on, presser) {
+        Err(Refusal::Again)
+    } else {
+        Ok(())
+    }
+}
+
+fn judge_mobile_on(number: Option<u32>, found: bool, c: Channel) -> Result<(), Refusal>
+    ensures { refusal_in result ≡ mobile_on_refusal number found c }
 {
     if !found {
-        return 12;
+        return Err(Refusal::NotEntitled);
+    }
+    if !is_caller(number) {
+        return Err(Refusal::WrongNumber);
     }
     let arrival = c.arrival;
-    if x.kind != 4 {
-        return if channel::is_present(arrival) { 0 } else { 15 };
-    }
-    let number = x.number;
-    if !is_caller(number) {
-        return 13;
-    }
     if channel::is_present(arrival) | (0 < c.ring) {
-        15
+        Err(Refusal::Again)
     } else {
-        0
+        Ok(())
+    }
+}
+
+fn judge_mobile_off(found: bool, c: Channel) -> Result<(), Refusal>
+    ensures { refusal_in result ≡ mobile_off_refusal found c }
+{
+    if !found {
+        return Err(Refusal::NotEntitled);
+    }
+    let arrival = c.arrival;
+    if channel::is_present(arrival) {
+        Ok(())
+    } else {
+        Err(Refusal::Again)
     }
 }
 
 // A mobile call. `heard` says whether the called desk is running and entitled.
-fn judge_call(x: Entry, heard: bool, found: bool, c: Channel) -> u8
-    ensures { result ≡ call_refusal x heard found c }
+fn judge_call(
+    number: Option<u32>,
+    called: Option<u32>,
+    heard: bool,
+    found: bool,
+    c: Channel,
+) -> Result<(), Refusal>
+    ensures { refusal_in result ≡ call_refusal number called heard found c }
 {
     if !found {
-        return 12;
+        return Err(Refusal::NotEntitled);
     }
-    let number = x.number;
-    let called = x.called;
     if !(is_caller(number) & is_caller(called)) {
-        return 13;
+        return Err(Refusal::WrongNumber);
     }
-    if heard & is_idle(c) { 0 } else { 17 }
+    if heard & is_idle(c) {
+        return Ok(());
+    }
+    Err(Refusal::CannotRing)
 }
 
-fn judge_cancel(found: bool, c: Channel) -> u8
-    ensures { result ≡ cancel_refusal found c }
+fn judge_cancel(found: bool, c: Channel) -> Result<(), Refusal>
+    ensures { refusal_in result ≡ cancel_refusal found c }
 {
     if !found {
-        return 12;
+        return Err(Refusal::NotEntitled);
     }
-    if 0 < c.ring { 0 } else { 17 }
+    if 0 < c.ring {
+        Ok(())
+    } else {
+        Err(Refusal::CannotRing)
+    }
 }
 
 // An entry about a channel, and whether the plan has the channel. The number is what a telegram gives as its desk's own; `heard` is
 // asked of a mobile call alone.
-pub fn judge(x: Entry, number: Number, own: Number, heard: bool, found: bool, c: Channel) -> u8
-    ensures { result ≡ refusal_by x number own heard found c }
+pub fn judge(
+    x: Entry,
+    number: Number,
+    own: Number,
+    heard: bool,
+    found: bool,
+    c: Channel,
+) -> Result<(), Refusal>
+    ensures { refusal_in result ≡ refusal_by x number own heard found c }
 {
-    if x.kind == 1 {
-        return judge_ask(x.desk, number, own, found, c);
+    match x {
+        Entry::Telegram { desk } => judge_ask(desk, number, own, found, c),
+        Entry::Press { desk, on, .. } => judge_press(desk, on, found, c),
+        Entry::Cut { desk, .. } => judge_cut(desk, found, c),
+        Entry::MobileOn { number, .. } => judge_mobile_on(number, found, c),
+        Entry::MobileCall { number, called, .. } => judge_call(number, called, heard, found, c),
+        Entry::MobileCancel { .. } => judge_cancel(found, c),
+        _ => judge_mobile_off(found, c),
     }
-    if (x.kind == 2) | (x.kind == 3) {
-        return judge_press(x, found, c);
-    }
-    if x.kind == 9 {
-        return judge_call(x, heard, found, c);
-    }
-    if x.kind == 10 {
-        return judge_cancel(found, c);
-    }
-    judge_mobile(x, found, c)
 }

@@ -2,37 +2,37 @@
 -- Assumes nothing.
 use Prim.Native.Nat.{ℕ}
 use mathlib.Core.List.{List}
-use mathlib.Core.Bool.{Bool, true, false}
+use mathlib.Core.Bool.{true, false}
 use mathlib.Core.Path.{◌≡◌, refl, sym}
+use Rattle.std.specs.Prelude.{Ok}
 use Rattle.laws.specs.Table.{pick}
+use Rattle.std.specs.Prelude.{Some, None}
+use Rattle.std.proofs.lemmas.Option.{cond_some}
+use Rattle.laws.proofs.Tests.{cond_none}
 use Rattle.plans.specs.Planned.{plan_of}
-use Rattle.set_rules.specs.Entries.{plan_in}
+use Rattle.set_rules.specs.Entries.{plan_in, entry_kind}
 use Rattle.set_rules.specs.Plan.{plan_ok, set_of}
 use Rattle.set_rules.specs.Refusals.{first_of, refusal_of}
 use Rattle.set_rules.specs.SetRules.{accepted_by, accepted, on_plan}
 use Rattle.set_rules.specs.Feeds.{refuse, emit, outcome_of}
-use Rattle.set_state.specs.declared.state.Entry.{Entry}
+use Rattle.set_state.specs.declared.state.Entry.TheVariants.{Plan}
 use Rattle.set_state.specs.declared.state.LineSet.{LineSet}
 
-module _ (s : LineSet) (e : List ℕ) (x : Entry) (room : ℕ) (z : x.refusal ≡ 0) (k : x.kind ≡ 7) (h : s.planned ≡ false) where
-  pub plan_bad : plan_ok (plan_in e) ≡ false → refuse 6 s ≡ outcome_of s e x room
-  unfolding outcome_of refusal_of first_of
-  plan_bad o = sym (rw (z, k, h, o) refl)
+module _ (s : LineSet) (e : List ℕ) (room : ℕ) (h : s.planned ≡ false) where
+  pub plan_bad : plan_ok (plan_in e) ≡ false → refuse 6 s ≡ outcome_of s e (Ok Plan) room
+  unfolding outcome_of refusal_of first_of entry_kind
+  plan_bad o = sym (rw (h, o) refl)
 
-  pub plan_good : plan_ok (plan_in e) ≡ true → emit s (on_plan (plan_in e)) room ≡ outcome_of s e x room
-  unfolding outcome_of refusal_of first_of accepted accepted_by pick
-  plan_good o = sym (rw (z, k, h, o) refl)
+  pub plan_good : plan_ok (plan_in e) ≡ true → emit s (on_plan (plan_in e)) room ≡ outcome_of s e (Ok Plan) room
+  unfolding outcome_of refusal_of first_of accepted accepted_by pick entry_kind
+  plan_good o = sym (rw (h, o) refl)
 
 -- ---- what the reader of plans answers
 
-pub plan_ok_lem : (p : List ℕ) → (plan_of p).ok ≡ plan_ok p
+pub plan_read : (p : List ℕ) (t : LineSet) → plan_of p ≡ Some t → (plan_ok p ≡ true) × (t ≡ set_of p)
 unfolding plan_of
-plan_ok_lem p = go (plan_ok p) refl
-  where
-    go : (t : Bool) → plan_ok p ≡ t → (plan_of p).ok ≡ plan_ok p
-    go true k = rw k
-    go false k = rw k
+plan_read p t e = let f = cond_some (plan_ok p) (set_of p) t e in (f.0, sym f.1)
 
-pub plan_set : (p : List ℕ) → plan_ok p ≡ true → (plan_of p).set ≡ set_of p
+pub plan_missing : (p : List ℕ) → plan_of p ≡ None → plan_ok p ≡ false
 unfolding plan_of
-plan_set p k = rw k
+plan_missing p e = cond_none (plan_ok p) (set_of p) e

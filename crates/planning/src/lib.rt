@@ -3,4 +3,4 @@
 
 mod taking;
 
-pub use taking::plan;
+pub use taking::{Planned, plan};

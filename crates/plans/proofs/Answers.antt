@@ -3,107 +3,92 @@
 use Prim.Native.Nat.{ℕ, ◌+◌, ◌-◌, ◌*◌, ◌≤◌}
 use mathlib.Core.List.{List}
 use mathlib.Core.Bool.{true, false, ◌&&◌}
-use mathlib.Core.Path.{◌≡◌, refl, sym, ap}
-use native.Mathlib.Omega.{arith}
+use mathlib.Core.Path.{◌≡◌, sym, ap, ◌∙◌}
 use lib.Dec.{leb, eqb}
 use lib.ListN.{length, take, drop}
 use borrow.Author.Tests.{leb-true, eqb-true}
+use Rattle.std.specs.Prelude.{Option, Some, None}
+use Rattle.std.proofs.lemmas.Option.{cond_some}
 use Rattle.laws.proofs.Lists.{part_to_end}
-use Rattle.laws.proofs.Tests.{both, cond-taken, cond-left, flag-taken, flag-left}
+use Rattle.laws.proofs.Tests.{both, cond_none}
 use Rattle.fields.specs.Fields.{between}
+use Rattle.channel.specs.declared.state.Channel.{Channel}
 use Rattle.set_state.specs.State.{no_desk, no_channel}
-use Rattle.set_rules.specs.Plan.{desk_ok, desks_ok, desks_in, channels_ok, channels_in, desk_count, desks_part, channel_count, channels_part, filled}
 use Rattle.set_state.specs.declared.state.Desk.{Desk}
 use Rattle.set_state.specs.declared.state.Size.{Size}
-use Rattle.plans.specs.Planned.{counts_ok, counts_in, size_of, desk_of, desk_in, desks_read, no_desks, channels_read, no_channels}
-use Rattle.plans.specs.declared.desks.DeskRead.TheVariants.{Is, Bad}
-use Rattle.plans.specs.declared.desks.Desks.{Desks}
-use Rattle.plans.specs.declared.channels.Channels.{Channels}
-use Rattle.plans.specs.declared.plan.Counts.TheVariants.{Are, Bad as BadCounts}
-use Rattle.plans.proofs.Filled.{take-filled}
+use Rattle.set_rules.specs.Plan.{desks_ok, desks_in, channels_ok, channels_in, desk_count, desks_part, channel_count, channels_part, filled}
 use Rattle.set_rules.proofs.Kept.{length-desks}
+use Rattle.plans.specs.Planned.{counts_ok, counts_in, size_of, desks_read, channels_read}
+use Rattle.plans.proofs.Filled.{take-filled}
 
-counts-none : (k : Size) → Are k ≡ BadCounts → ⊥
-counts-none k q = let z : ◌≡◌ {A = ℕ} 0 1 = cc in omega arith
+-- ---- the counts
 
-pub counts-found : (p : List ℕ) (k : Size) → counts_in p ≡ Are k → (counts_ok p ≡ true) × (k ≡ size_of p)
-counts-found p k e =
-    let t = cond-taken (counts_ok p) (Are (size_of p)) BadCounts e (λ q. counts-none k (sym q)) in
-    let g : Are (size_of p) ≡ Are k = t.1 in
-    (t.0, cc)
-
-pub counts-bad : (p : List ℕ) → counts_in p ≡ BadCounts → counts_ok p ≡ false
-counts-bad p e = (cond-left (counts_ok p) (Are (size_of p)) BadCounts e (counts-none (size_of p))).0
-
--- what right counts say
-pub record Counted (p : List ℕ) : Type 0 where
-  pub desks : desk_count p ≤ 4
-  pub channels : channel_count p ≤ 32
+-- what it says of a plan that these counts were read of it
+pub record Sized (p : List ℕ) (s : Size) : Type 0 where
+  pub ok : counts_ok p ≡ true
+  pub is : size_of p ≡ s
+  pub desks : s.desks ≡ desk_count p
+  pub channels : s.channels ≡ channel_count p
+  pub few_desks : desk_count p ≤ 4
+  pub few_channels : channel_count p ≤ 32
   pub size : length p ≡ 2 + 10 * desk_count p + 2 * channel_count p
 
-pub counted : (p : List ℕ) → counts_ok p ≡ true → Counted p
+pub sized : (p : List ℕ) (s : Size) (r : Option Size) → r ≡ counts_in p → r ≡ Some s → Sized p s
 unfolding counts_ok
-counted p h =
-    let a = both (between 1 4 (desk_count p) && between 1 32 (channel_count p)) (eqb (length p) (2 + 10 * desk_count p + 2 * channel_count p)) h in
+sized p s r e f =
+    let t = cond_some (counts_ok p) (size_of p) s (sym e ∙ f) in
+    let a = both (between 1 4 (desk_count p) && between 1 32 (channel_count p)) (eqb (length p) (2 + 10 * desk_count p + 2 * channel_count p)) t.0 in
     let b = both (between 1 4 (desk_count p)) (between 1 32 (channel_count p)) a.0 in
     record {
-      desks = leb-true _ _ (both (leb 1 (desk_count p)) (leb (desk_count p) 4) b.0).1;
-      channels = leb-true _ _ (both (leb 1 (channel_count p)) (leb (channel_count p) 32) b.1).1;
+      ok = t.0;
+      is = t.1;
+      desks = ap (λ (k : Size). k.desks) (sym t.1);
+      channels = ap (λ (k : Size). k.channels) (sym t.1);
+      few_desks = leb-true _ _ (both (leb 1 (desk_count p)) (leb (desk_count p) 4) b.0).1;
+      few_channels = leb-true _ _ (both (leb 1 (channel_count p)) (leb (channel_count p) 32) b.1).1;
       size = eqb-true _ _ a.1;
     }
 
-desk_none : (k : Desk) → Is k ≡ Bad → ⊥
-desk_none k q = let z : ◌≡◌ {A = ℕ} 0 1 = cc in omega arith
-
-pub desk_found : (b : List ℕ) (k : Desk) → desk_in b ≡ Is k → (desk_ok b ≡ true) × (k ≡ desk_of b)
-desk_found b k e =
-    let t = cond-taken (desk_ok b) (Is (desk_of b)) Bad e (λ q. desk_none k (sym q)) in
-    let g : Is (desk_of b) ≡ Is k = t.1 in
-    (t.0, cc)
-
-pub desk_bad : (b : List ℕ) → desk_in b ≡ Bad → desk_ok b ≡ false
-desk_bad b e = (cond-left (desk_ok b) (Is (desk_of b)) Bad e (desk_none (desk_of b))).0
-
-module _ (n : ℕ) (b : List ℕ) (r : Desks) (e : r ≡ desks_read n b) where
-  abbrev read-desks : Desks
-  read-desks = record { desks = filled 4 no_desk (desks_in n b); ok = true }
-
-  pub desks-found : r.ok ≡ true → (desks_ok n b ≡ true) × (r.desks ≡ filled 4 no_desk (desks_in n b))
-  unfolding desks_read
-  desks-found o =
-      let t = flag-taken (λ (x : Desks). x.ok) (desks_ok n b) read-desks no_desks e refl o in
-      (t.0, ap (λ (x : Desks). x.desks) t.1)
-
-  pub desks-bad : r.ok ≡ false → desks_ok n b ≡ false
-  unfolding desks_read
-  desks-bad o = flag-left (λ (x : Desks). x.ok) (desks_ok n b) read-desks no_desks e refl o
-
-module _ (n desks : ℕ) (b : List ℕ) (r : Channels) (e : r ≡ channels_read n desks b) where
-  abbrev read-channels : Channels
-  read-channels = record { channels = filled 32 no_channel (channels_in n b); ok = true }
-
-  pub channels-found : r.ok ≡ true → (channels_ok n 0 desks b ≡ true) × (r.channels ≡ filled 32 no_channel (channels_in n b))
-  unfolding channels_read
-  channels-found o =
-      let t = flag-taken (λ (x : Channels). x.ok) (channels_ok n 0 desks b) read-channels no_channels e refl o in
-      (t.0, ap (λ (x : Channels). x.channels) t.1)
-
-  pub channels-bad : r.ok ≡ false → channels_ok n 0 desks b ≡ false
-  unfolding channels_read
-  channels-bad o = flag-left (λ (x : Channels). x.ok) (channels_ok n 0 desks b) read-channels no_channels e refl o
-
--- ---- the parts of a plan that its readers are given
+-- ---- the desks, of the bytes behind the first
 
 abbrev pub desks_of : List ℕ → List Desk
 desks_of p = desks_in (desk_count p) (desks_part p)
 
-pub desks-given : (p : List ℕ) (n : ℕ) → n ≡ desk_count p
-    → desks_read n (take (length p - 1) (drop 1 p)) ≡ desks_read (desk_count p) (desks_part p)
-desks-given p n e = rw (part_to_end p 1, e)
+-- what it says of a plan that these n desks were read of it
+pub record Found (p : List ℕ) (n : ℕ) (ds : List Desk) : Type 0 where
+  pub ok : desks_ok (desk_count p) (desks_part p) ≡ true
+  pub are : ds ≡ filled 4 no_desk (desks_of p)
+  pub taken : take n ds ≡ desks_of p
+  pub long : length (take n ds) ≡ n
 
-pub desks-taken : (p : List ℕ) (n : ℕ) (ds : List Desk) → n ≡ desk_count p → ds ≡ filled 4 no_desk (desks_of p) → take n ds ≡ desks_of p
-desks-taken p n ds e f = rw (e, f) (take-filled (desk_count p) 4 no_desk (desks_of p) (length-desks (desk_count p) (desks_part p)))
+module _ (p : List ℕ) (n : ℕ) (c : n ≡ desk_count p) (r : Option (List Desk)) (e : r ≡ desks_read n (take (length p - 1) (drop 1 p))) where
+  desks-given : r ≡ desks_read (desk_count p) (desks_part p)
+  desks-given = e ∙ rw (part_to_end p 1, c)
 
-pub channels-given : (p : List ℕ) (n k d : ℕ) → n ≡ desk_count p → k ≡ channel_count p → d ≡ desk_count p
-    → channels_read k d (take (length p - (2 + 10 * n)) (drop (2 + 10 * n) p)) ≡ channels_read (channel_count p) (desk_count p) (channels_part p)
-channels-given p n k d e f g = rw (part_to_end p (2 + 10 * n), e, f, g)
+  pub desks-found : (ds : List Desk) → r ≡ Some ds → Found p n ds
+  unfolding desks_read
+  desks-found ds f =
+      let t = cond_some (desks_ok (desk_count p) (desks_part p)) (filled 4 no_desk (desks_of p)) ds (sym desks-given ∙ f) in
+      let l = length-desks (desk_count p) (desks_part p) in
+      let k : take n ds ≡ desks_of p = rw (c, ← t.1) (take-filled (desk_count p) 4 no_desk (desks_of p) l) in
+      record { ok = t.0; are = sym t.1; taken = k; long = ap length k ∙ l ∙ sym c }
+
+  pub desks-missing : r ≡ None → desks_ok (desk_count p) (desks_part p) ≡ false
+  unfolding desks_read
+  desks-missing f = cond_none _ (filled 4 no_desk (desks_of p)) (sym desks-given ∙ f)
+
+-- ---- the channels, of the bytes behind the desks and the count of channels
+
+module _ (p : List ℕ) (s : Size) (k : Sized p s) (r : Option (List Channel))
+    (e : r ≡ channels_read s.channels s.desks (take (length p - (2 + 10 * s.desks)) (drop (2 + 10 * s.desks) p))) where
+  channels-given : r ≡ channels_read (channel_count p) (desk_count p) (channels_part p)
+  channels-given = e ∙ rw (part_to_end p (2 + 10 * s.desks), k.desks, k.channels)
+
+  pub channels-found : (cs : List Channel) → r ≡ Some cs
+      → (channels_ok (channel_count p) 0 (desk_count p) (channels_part p) ≡ true) × (filled 32 no_channel (channels_in (channel_count p) (channels_part p)) ≡ cs)
+  unfolding channels_read
+  channels-found cs f = cond_some _ _ cs (sym channels-given ∙ f)
+
+  pub channels-missing : r ≡ None → channels_ok (channel_count p) 0 (desk_count p) (channels_part p) ≡ false
+  unfolding channels_read
+  channels-missing f = cond_none _ (filled 32 no_channel (channels_in (channel_count p) (channels_part p))) (sym channels-given ∙ f)

@@ -1,4 +1,4 @@
+mod Answers
 mod Filled
 mod Turns
 mod Pairs
-mod Answers

@@ -1,6 +1,6 @@
 -- One turn of the loops that read the desks and the channels of a plan: the item at i, and those after it.
 -- Assumes nothing.
-use Prim.Native.Nat.{ℕ, suc, ◌+◌, ◌-◌, ◌≤◌, ◌<◌}
+use Prim.Native.Nat.{ℕ, suc, ◌+◌, ◌-◌, ◌*◌, ◌≤◌, ◌<◌}
 use mathlib.Core.List.{List, [], ◌∷◌}
 use mathlib.Core.Bool.{true, ◌&&◌}
 use mathlib.Core.Path.{◌≡◌}
@@ -16,32 +16,36 @@ use Rattle.channel.specs.State.{free_channel, first_desks}
 use Rattle.set_rules.specs.Plan.{desk_ok, desks_ok, desks_in, channels_ok, channels_in}
 use Rattle.plans.specs.Planned.{desk_of}
 
--- the places left fall by one
+-- the places left fall by one, and the bytes left by those of an item
 module _ (n i : ℕ) (h : i < n) where
   left : n - i ≡ suc (n - (i + 1))
   left = omega arith
 
-  pub desks_ok_at : (s : List ℕ) (at : ℕ)
-      → desks_ok (n - i) (drop at s) ≡ (desk_ok (drop at s) && desks_ok (n - (i + 1)) (drop (at + 10) s))
+  behind : (k : ℕ) → k * (i + 1) ≡ k * i + k
+  behind k = omega arith
+
+  pub desks_ok_at : (s : List ℕ)
+      → desks_ok (n - i) (drop (10 * i) s) ≡ (desk_ok (drop (10 * i) s) && desks_ok (n - (i + 1)) (drop (10 * (i + 1)) s))
   unfolding desks_ok
-  desks_ok_at s at = rw (left, ← drop-drop 10 at s)
+  desks_ok_at s = rw (left, behind 10, ← drop-drop 10 (10 * i) s)
 
-  pub desks-at : (s : List ℕ) (at : ℕ)
-      → desks_in (n - i) (drop at s) ≡ desk_of (drop at s) ∷ desks_in (n - (i + 1)) (drop (at + 10) s)
+  pub desks-at : (s : List ℕ)
+      → desks_in (n - i) (drop (10 * i) s) ≡ desk_of (drop (10 * i) s) ∷ desks_in (n - (i + 1)) (drop (10 * (i + 1)) s)
   unfolding desks_in
-  desks-at s at = rw (left, ← drop-drop 10 at s)
+  desks-at s = rw (left, behind 10, ← drop-drop 10 (10 * i) s)
 
-  pub channels_ok_at : (s : List ℕ) (at low desks : ℕ)
-      → channels_ok (n - i) low desks (drop at s)
-      ≡ (between low 99 (get_or s at 0) && between 1 (first_desks desks) (get_or s (at + 1) 0)
-      && channels_ok (n - (i + 1)) (get_or s at 0 + 1) desks (drop (at + 2) s))
+  pub channels_ok_at : (s : List ℕ) (low desks : ℕ)
+      → channels_ok (n - i) low desks (drop (2 * i) s)
+      ≡ (between low 99 (get_or s (2 * i) 0) && between 1 (first_desks desks) (get_or s (2 * i + 1) 0)
+      && channels_ok (n - (i + 1)) (get_or s (2 * i) 0 + 1) desks (drop (2 * (i + 1)) s))
   unfolding channels_ok
-  channels_ok_at s at low desks = rw (left, ← drop-drop 2 at s) (simp (get_or-drop, add-zero))
+  channels_ok_at s low desks = rw (left, behind 2, ← drop-drop 2 (2 * i) s) (simp (get_or-drop, add-zero))
 
-  pub channels-at : (s : List ℕ) (at : ℕ)
-      → channels_in (n - i) (drop at s) ≡ free_channel (get_or s at 0) (get_or s (at + 1) 0) ∷ channels_in (n - (i + 1)) (drop (at + 2) s)
+  pub channels-at : (s : List ℕ)
+      → channels_in (n - i) (drop (2 * i) s)
+      ≡ free_channel (get_or s (2 * i) 0) (get_or s (2 * i + 1) 0) ∷ channels_in (n - (i + 1)) (drop (2 * (i + 1)) s)
   unfolding channels_in
-  channels-at s at = rw (left, ← drop-drop 2 at s) (simp (get_or-drop, add-zero))
+  channels-at s = rw (left, behind 2, ← drop-drop 2 (2 * i) s) (simp (get_or-drop, add-zero))
 
 -- at the end
 module _ (n i : ℕ) (h : n ≤ i) where

@@ -5,4 +5,4 @@ mod channels;
 mod desks;
 mod plan;
 
-pub use plan::{Plan, read_plan};
+pub use plan::read_plan;

@@ -1,7 +1,7 @@
 -- What is promised of the rows up to 11, beside the contracts. `proofs/Kept.antt` has the proof under the name given with it,
 -- and is the one module of the proofs that other crates cite.
 use Rattle.std.specs.Prelude.{ℕ, not, cond, ◌≡◌, eqb}
-use Rattle.telegram.specs.declared.message.Reading.{Reading}
+use Rattle.telegram.specs.Telegram.{Reading}
 use Rattle.set_rules.specs.Refusals.{code_is, identifier_is, body_reads, asked_in, phase_of}
 use Rattle.set_state.specs.declared.state.Request.TheVariants.{Foreign}
 

@@ -1,12 +1,13 @@
 // What an entry asks of the set about one desk's link or one channel.
 ghost use Rattle.std.specs.Prelude.{◌≡◌, Bool, cond, ◌≤◌, ltb};
 ghost use Rattle.channel.specs.declared.state.Channel.{Channel};
-ghost use Rattle.set_rules.specs.Refusals.{phase_of, number_in};
+ghost use Rattle.set_state.specs.Entry.{numbered};
+ghost use Rattle.set_rules.specs.Entries.{entry_kind};
+ghost use Rattle.set_rules.specs.Refusals.{is_kind, from_desk, phase_of, number_in};
 ghost use Rattle.requests.specs.Asking.{seen, in_phase, ring_of, event_of, asked_of};
 
 use channel::Event;
-use numerals::Digits;
-use set_state::{Desk, Entry, LinkRequest, Request};
+use set_state::{Desk, Entry, LinkRequest, Refusal, Request};
 use telegram::Number;
 use telegram_requests::{Asked, LineRequest};
 
@@ -17,58 +18,53 @@ fn telegram_start(length: usize) -> usize
     if length < 5 { length } else { 5 }
 }
 
-fn number_in(number: Digits) -> Number
+fn number_in(number: Option<u32>) -> Number
     ensures { result ≡ number_in number }
 {
     match number {
-        Digits::Value(v) => Number::new(v),
-        Digits::Malformed => Number::NONE,
+        Some(v) => Number::new(v),
+        None => Number::NONE,
     }
 }
 
 // A mobile that calls one of n desks.
-fn ring_of(x: Entry, desks: [Desk; 4], n: u8) -> Event
-    ensures { result ≡ ring_of desks n x }
+fn ring_of(base: u8, number: Option<u32>, called: Option<u32>, desks: [Desk; 4], n: u8) -> Event
+    ensures { result ≡ ring_of desks n called base number }
 {
-    let digits = x.called;
-    let called = number_in(digits);
+    let called = number_in(called);
     let place = set_state::desk_place(desks, n, called);
-    let digits = x.number;
-    let number = number_in(digits);
+    let number = number_in(number);
     Event::Ring {
         desk: place,
-        base: x.base,
+        base,
         number,
     }
 }
 
 // What an entry that is no telegram makes happen, if its desk has this number. Only a mobile call looks at the n desks.
 fn event_of(x: Entry, own: Number, desks: [Desk; 4], n: u8) -> Event
-    ensures { result ≡ event_of desks n x own }
+    ensures { result ≡ event_of desks n (Ok x) own }
 {
-    let kind = x.kind;
-    match kind {
-        2 => {
-            if x.on == 1 {
-                Event::PressOn {
-                    desk: x.desk,
-                    number: own,
-                }
+    match x {
+        Entry::Press { desk, on, .. } => {
+            if on {
+                Event::PressOn { desk, number: own }
             } else {
                 Event::PressOff
             }
         }
-        3 => Event::Cut,
-        4 => {
-            let digits = x.number;
-            let number = number_in(digits);
-            Event::MobileOn {
-                base: x.base,
-                number,
-            }
+        Entry::Cut { .. } => Event::Cut,
+        Entry::MobileOn { base, number, .. } => {
+            let number = number_in(number);
+            Event::MobileOn { base, number }
         }
-        9 => ring_of(x, desks, n),
-        10 => Event::Cancel,
+        Entry::MobileCall {
+            base,
+            number,
+            called,
+            ..
+        } => ring_of(base, number, called, desks, n),
+        Entry::MobileCancel { .. } => Event::Cancel,
         _ => Event::MobileOff,
     }
 }
@@ -84,51 +80,80 @@ fn link_phase(request: LinkRequest) -> u32
 }
 
 // What is asked, or 11 if the link is in another phase than it needs.
-fn if_ready(ready: bool, asked: Asked) -> Asked
-    ensures { result ≡ cond ready asked (Asked.Refusal 11) }
+fn if_ready(ready: bool, asked: Asked) -> Result<Asked, Refusal>
+    ensures { numbered result ≡ cond ready (Ok asked) (Err 11) }
 {
-    if ready { asked } else { Asked::Refusal(11) }
+    if ready {
+        Ok(asked)
+    } else {
+        Err(Refusal::Phase)
+    }
 }
 
 // What is asked, if the desk's link is in the phase that it needs.
-fn in_phase(phase: u32, asked: Asked) -> Asked
-    ensures { result ≡ in_phase phase asked }
+fn in_phase(phase: u32, asked: Asked) -> Result<Asked, Refusal>
+    ensures { numbered result ≡ in_phase phase (Ok asked) }
 {
     match asked {
-        Asked::Refusal(_) => asked,
         Asked::OfLink(request) => if_ready(phase == link_phase(request), asked),
         Asked::OfLine(_) => if_ready(phase == 3, asked),
     }
 }
 
-// What an entry asks that is about one desk or one channel: any but a plan.
-pub fn asked_of(x: Entry, planned: bool, entry: &[u8], desks: [Desk; 4], n: u8) -> Asked
-    ensures { (found : Bool) (c : Channel) → (x.kind ≡ 7 → ⊥) → result ≡ asked_of (seen planned desks n found c) entry.now x }
+fn is_telegram(x: Entry) -> bool
+    ensures { result ≡ is_kind 1 (Ok x) }
 {
-    if x.refusal != 0 {
-        return Asked::Refusal(x.refusal);
+    match x {
+        Entry::Telegram { .. } => true,
+        _ => false,
     }
+}
+
+// The kinds that come from a desk.
+fn is_from_desk(x: Entry) -> bool
+    ensures { result ≡ from_desk (Ok x) }
+{
+    match x {
+        Entry::Telegram { .. } => true,
+        Entry::Press { .. } => true,
+        Entry::Cut { .. } => true,
+        _ => false,
+    }
+}
+
+// What an entry asks that is about one desk or one channel: any but a plan.
+pub fn asked_of(
+    x: Entry,
+    planned: bool,
+    entry: &[u8],
+    desks: [Desk; 4],
+    n: u8,
+) -> Result<Asked, Refusal>
+    ensures { (found : Bool) (c : Channel) → (entry_kind (Ok x) ≡ 7 → ⊥) → numbered result ≡ asked_of (seen planned desks n found c) entry.now (Ok x) }
+{
     if !planned {
-        return Asked::Refusal(4);
+        return Err(Refusal::NoPlan);
     }
-    let from_desk = (x.kind == 1) | (x.kind == 2) | (x.kind == 3);
-    if from_desk & (n <= x.desk) {
-        return Asked::Refusal(7);
+    let d = x.desk();
+    let from_desk = is_from_desk(x);
+    if from_desk & (n <= d) {
+        return Err(Refusal::UnknownDesk);
     }
-    let desk = set_state::desk_at(desks, x.desk);
-    if x.kind == 1 {
+    let desk = set_state::desk_at(desks, d);
+    if is_telegram(x) {
         let start = telegram_start(entry.len());
-        let asked = telegram_requests::read_request(x.desk, &entry[start..], desk.code);
+        let asked = telegram_requests::read_request(d, &entry[start..], desk.code)?;
         return in_phase(desk.link.phase, asked);
     }
     if from_desk & (desk.link.phase != 3) {
-        return Asked::Refusal(11);
+        return Err(Refusal::Phase);
     }
     let own = desk.number;
     let event = event_of(x, own, desks, n);
-    Asked::OfLine(LineRequest::OnChannel {
-        code: x.channel as u32,
+    let channel = x.channel();
+    Ok(Asked::OfLine(LineRequest::OnChannel {
+        code: channel as u32,
         number: Number::NONE,
         event,
-    })
+    }))
 }

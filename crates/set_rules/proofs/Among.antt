@@ -11,17 +11,14 @@ use lib.Dec.{eqb, ltb}
 use lib.ListN.{length, length-take, take, get_or, get_or-eq_default}
 use lib.Seq.{get_or-take}
 use borrow.Author.Tests.{ltb-true, ltb-false, eqb-true, eqb-false, eq-eqb, ne_eqb}
+use Rattle.std.specs.Prelude.{Option, None, Some}
 use Rattle.laws.specs.Each.{Each}
 use Rattle.laws.proofs.Each.{each_map}
 use Rattle.laws.proofs.Tests.{by_test}
 use Rattle.telegram.specs.declared.message.Number.{Number}
 use Rattle.channel.specs.State.{is_in, only}
-use Rattle.channel.specs.declared.state.Party.{Party}
-use Rattle.channel.specs.declared.state.Party.TheVariants.{Nobody, By}
 use Rattle.channel.specs.declared.state.Call.{Call}
-use Rattle.channel.specs.declared.state.Call.TheVariants.{Closed, Open}
 use Rattle.channel.specs.declared.state.Arrival.{Arrival}
-use Rattle.channel.specs.declared.state.Arrival.TheVariants.{Absent, Present}
 use Rattle.channel.specs.declared.state.Channel.{Channel}
 use Rattle.channel.specs.declared.state.Notice.{Notice}
 use Rattle.channel.specs.declared.state.Notice.TheVariants.{PressAnswer, Incoming, BaseArrival as Arrived, Call as CallNotice, PressNotice, CallerNotice as Talks, CaptureReply as Reply, CaptureState as State, RingNotice, AnswerReply, CallResult}
@@ -121,17 +118,17 @@ module _ (M : Number → Type 0) (s t : LineSet) (run : (d : ℕ) → Running s 
   told_more : (c : Channel) (m : ℕ) (n : Number) → Told in_s c m n → Told in_t c m n
   told_more c m n k = record { listen = λ d i. let l = k.listen d i in (run d l.0, l.1); learn = λ d i. for_more d n (k.learn d i) }
 
-  holder_more : (c : Channel) (h : Party) → HolderListens in_s c h → HolderListens in_t c h
-  holder_more c Nobody l = tt
-  holder_more c (By d) l = (run d l.0, l.1)
+  holder_more : (c : Channel) (h : Option ℕ) → HolderListens in_s c h → HolderListens in_t c h
+  holder_more c None l = tt
+  holder_more c (Some d) l = (run d l.0, l.1)
 
-  call-more : (c : Channel) (k : Call) → CallTold in_s c k → CallTold in_t c k
-  call-more c Closed k = tt
-  call-more c (Open a d m b n) k = told_more c m n k
+  call-more : (c : Channel) (k : Option Call) → CallTold in_s c k → CallTold in_t c k
+  call-more c None t = tt
+  call-more c (Some k) t = told_more c k.recipients k.source t
 
-  arrival-more : (c : Channel) (a : Arrival) → ArrivalTold in_s c a → ArrivalTold in_t c a
-  arrival-more c Absent k = tt
-  arrival-more c (Present a m b n) k = told_more c m n k
+  arrival-more : (c : Channel) (a : Option Arrival) → ArrivalTold in_s c a → ArrivalTold in_t c a
+  arrival-more c None t = tt
+  arrival-more c (Some a) t = told_more c a.recipients a.number t
 
   pub among-more : (c : Channel) → Among in_s c → Among in_t c
   among-more c a = record { holder_listens = holder_more c c.holder a.holder_listens; call-told = call-more c c.call a.call-told; arrival-told = arrival-more c c.arrival a.arrival-told }

@@ -21,7 +21,7 @@ use Rattle.channel.specs.declared.state.Event.{Event}
 use Rattle.channel.specs.declared.state.Notice.{Notice}
 use Rattle.channel.specs.declared.state.Notice.TheVariants.{PressAnswer, Incoming, BaseArrival, Call, PressNotice, CallerNotice, CaptureReply, CaptureState, RingNotice, AnswerReply, CallResult}
 use Rattle.set_state.specs.State.{new_set, no_desk, own_of}
-use Rattle.set_rules.specs.Entries.{read_entry, telegram_in}
+use Rattle.set_rules.specs.Entries.{read_entry, telegram_in, entry_kind, entry_desk, entry_channel, ReadEntry}
 use Rattle.laws.specs.Table.{pick}
 use Rattle.set_rules.specs.Refusals.{asked_in, refusal_of}
 use Rattle.set_rules.specs.Records.{Delivery, delivered, record_for, record_size, to_each, records_of, space_of}
@@ -32,7 +32,6 @@ use Rattle.set_rules.specs.Promises.{Refused, Counted, Written, HandoverMakesNew
 use Rattle.set_state.specs.declared.state.Answer.{Answer}
 use Rattle.set_state.specs.declared.state.Desk.{Desk}
 use Rattle.set_state.specs.declared.state.LineSet.{LineSet}
-use Rattle.set_state.specs.declared.state.Entry.{Entry}
 use Rattle.set_state.specs.declared.state.LinkRequest.TheVariants.{TellsTime, TellsState}
 use Rattle.set_state.specs.declared.state.Request.{Request}
 use Rattle.set_state.specs.declared.state.Request.TheVariants.{OfLink, OnChannel, AnswersRing, Foreign}
@@ -131,21 +130,21 @@ even_request t s d (OnChannel ch n v) = even_on s ch v
 even_request t s d (AnswersRing m) = even_on s m.channel _
 even_request t s d Foreign = tt
 
-pub even_accepted : (s : LineSet) (e : List ℕ) (x : Entry) → AllEven (accepted s e x).sent
+pub even_accepted : (s : LineSet) (e : List ℕ) (x : ReadEntry) → AllEven (accepted s e x).sent
 unfolding accepted_by accepted on_tick on_handover
 even_accepted s e x =
-    let q = asked_in x.desk (read_telegram (telegram_in e)) in
-    pick_each (λ f. AllEven f.sent) x.kind _ (ways (answers_in s x.desk q) s e x) tt
-    ((λ k. even_request _ s x.desk q)
-    ▹ (λ k. even_on s x.channel _)
-    ▹ (λ k. even_on s x.channel _)
-    ▹ (λ k. even_on s x.channel _)
-    ▹ (λ k. even_on s x.channel _)
+    let q = asked_in (entry_desk x) (read_telegram (telegram_in e)) in
+    pick_each (λ f. AllEven f.sent) (entry_kind x) _ (ways (answers_in s (entry_desk x) q) s e x) tt
+    ((λ k. even_request _ s (entry_desk x) q)
+    ▹ (λ k. even_on s (entry_channel x) _)
+    ▹ (λ k. even_on s (entry_channel x) _)
+    ▹ (λ k. even_on s (entry_channel x) _)
+    ▹ (λ k. even_on s (entry_channel x) _)
     ▹ (λ k. even_all s.desks _ _)
     ▹ (λ k. (λ d. refl, tt))
     ▹ (λ k. even_all s.desks _ _)
-    ▹ (λ k. even_on s x.channel _)
-    ▹ (λ k. even_on s x.channel _)
+    ▹ (λ k. even_on s (entry_channel x) _)
+    ▹ (λ k. even_on s (entry_channel x) _)
     ▹ tt)
 
 pub counted : Counted
@@ -199,7 +198,7 @@ no_room s b f h g = rw (lt-leb (space_of f.sent) (length b) h) g
 
 -- ---- a handover
 
-handed-over : (s : LineSet) (e : List ℕ) (x : Entry) → x.kind ≡ 8 → (accepted s e x).after ≡ new_set
+handed-over : (s : LineSet) (e : List ℕ) (x : ReadEntry) → entry_kind x ≡ 8 → (accepted s e x).after ≡ new_set
 unfolding accepted_by accepted pick on_handover
 handed-over s e x h = rw h
 

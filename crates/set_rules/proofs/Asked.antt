@@ -4,13 +4,13 @@ use Prim.Native.Nat.{ℕ}
 use mathlib.Core.Bool.{true}
 use mathlib.Core.Path.{◌≡◌}
 use lib.Dec.{eqb}
+use Rattle.std.specs.Prelude.{Ok, Err}
 use Rattle.laws.proofs.Tests.{both, either}
 use Rattle.telegram.specs.declared.message.Number.{Number}
-use Rattle.telegram.specs.declared.message.RingAnswer.{RingAnswer}
+use Rattle.telegram.specs.declared.message.Ring.{Ring as RingAnswer}
 use Rattle.telegram.specs.declared.message.Message.{Message}
 use Rattle.telegram.specs.declared.message.Message.TheVariants.{TimeNotice, RingAnswer as Answers, OperationAnswer, TimeRequest, BaseArrival, RingNotice, AnswerReply, OperationRequest, Call, CallerNotice, CallResult, CaptureRequest, CaptureReply, CaptureState}
-use Rattle.telegram.specs.declared.message.Reading.{Reading}
-use Rattle.telegram.specs.declared.message.Reading.TheVariants.{Telegram, Refused}
+use Rattle.telegram.specs.Telegram.{Reading}
 use Rattle.channel.specs.declared.state.Channel.{Channel}
 use Rattle.channel.specs.declared.state.Event.{Event}
 use Rattle.channel.specs.declared.state.Event.TheVariants.{Capture, Release}
@@ -45,8 +45,8 @@ module _ (P : Event → Type 0) (d : ℕ) (captures : P (Capture d)) (releases :
   asked_by_lem (CaptureState m) = tt
 
   pub asked_in_lem : (r : Reading) → OnEvent P (asked_in d r)
-  asked_in_lem (Telegram k m) = asked_by_lem m
-  asked_in_lem (Refused n k i) = tt
+  asked_in_lem (Ok t) = asked_by_lem t.message
+  asked_in_lem (Err e) = tt
 
 pub answer-rings : (d : ℕ) (own : Number) (m : RingAnswer) (c : Channel) → answers_ring d own m c ≡ true → is_ringing c ≡ true
 answer-rings d own m c h =

@@ -5,7 +5,6 @@ use Prim.Native.Nat.{ℕ}
 use mathlib.Core.List.{List, [], ◌∷◌, ◌++◌, map, map-append}
 use mathlib.Core.Bool.{Bool, true, cond}
 use mathlib.Core.Path.{◌≡◌, refl, sym, ap, ◌∙◌}
-use lib.Dec.{eqb}
 use lib.ListN.{length, get_or, take, drop, set, length-map, get_or-map}
 use Rattle.laws.specs.Each.{Each}
 use Rattle.laws.proofs.Each.{◌▹◌}
@@ -13,7 +12,7 @@ use Rattle.laws.proofs.Lists.{take-map, drop-map, map-set}
 use Rattle.laws.proofs.Table.{pick_matched}
 use Rattle.telegram.specs.Telegram.{read_telegram}
 use Rattle.telegram.specs.declared.message.Number.{Number}
-use Rattle.telegram.specs.declared.message.Reading.{Reading}
+use Rattle.telegram.specs.Telegram.{Reading}
 use Rattle.channel.specs.State.{is_in}
 use Rattle.channel.specs.declared.state.Channel.{Channel}
 use Rattle.channel.specs.declared.state.Event.{Event}
@@ -28,11 +27,10 @@ use Rattle.line_rules.proofs.Kept.{hide_twice, present_hide, open_hide, happens-
 use Rattle.set_state.specs.State.{no_channel, own_of, place_of, place_in, channel_at, listeners_of, with_channels}
 use Rattle.set_state.specs.declared.state.Desk.{Desk}
 use Rattle.set_state.specs.declared.state.LineSet.{LineSet}
-use Rattle.set_state.specs.declared.state.Entry.{Entry}
 use Rattle.set_state.specs.declared.state.LinkRequest.TheVariants.{TellsTime, TellsState}
 use Rattle.set_state.specs.declared.state.Request.{Request}
 use Rattle.set_state.specs.declared.state.Request.TheVariants.{OfLink, OnChannel, AnswersRing, Foreign}
-use Rattle.set_rules.specs.Entries.{telegram_in}
+use Rattle.set_rules.specs.Entries.{telegram_in, entry_kind, entry_desk, entry_channel, entry_on, entry_base, entry_number, entry_called, ReadEntry}
 use Rattle.set_rules.specs.Refusals.{Lookup, lookup_in, Test, asked_in, named_by, number_in, called_place, first_of, refusal_of, table}
 use Rattle.set_rules.specs.Records.{Delivery, delivered, record_size, records_of, space_of}
 use Rattle.set_rules.specs.SetRules.{Effect, effect, time_taken, answer_taken, on_channel, moved_in, sends_of, ticked, tick_sends, end_sends, on_tick, on_handover, on_request, ways, accepted_by}
@@ -79,28 +77,28 @@ module _ (B : ℕ) where
   lookup_hide s ch = rw (channel_at-hide s ch, place-hide s.size.channels ch s.channels, count-hide s.size.channels s.channels) refl
 
   -- a row that goes by that
-  abbrev Blind : Lookup → List ℕ → Reading → Entry → ℕ × Test → Type 0
+  abbrev Blind : Lookup → List ℕ → Reading → ReadEntry → ℕ × Test → Type 0
   Blind v e r x row = row.1 (hide_lookup v) e r x ≡ row.1 v e r x
 
-  rows-hide : (v : Lookup) (e : List ℕ) (r : Reading) (x : Entry) (rows : List (ℕ × Test)) → Each (Blind v e r x) rows
+  rows-hide : (v : Lookup) (e : List ℕ) (r : Reading) (x : ReadEntry) (rows : List (ℕ × Test)) → Each (Blind v e r x) rows
       → first_of rows (hide_lookup v) e r x ≡ first_of rows v e r x
   unfolding first_of
   rows-hide v e r x [] w = refl
   rows-hide v e r x (row ∷ rows) w = rw (w.0, rows-hide v e r x rows w.1)
 
   -- only 15 and 17 look at more of the channel than its holder, press, ring and entitled desks
-  blind : (v : Lookup) (e : List ℕ) (r : Reading) (x : Entry) → Each (Blind v e r x) table
+  blind : (v : Lookup) (e : List ℕ) (r : Reading) (x : ReadEntry) → Each (Blind v e r x) table
   blind v e r x =
       refl ▹ refl ▹ refl ▹ refl ▹ refl ▹ refl ▹ refl ▹ refl ▹ refl ▹ refl ▹ refl
       ▹ (rw (present_hide B v.channel.arrival))
       ▹ (rw (present_hide B v.channel.arrival, open_hide B v.channel.call))
       ▹ tt
 
-  pub refusal-hide : (s : LineSet) (e : List ℕ) (x : Entry) → refusal_of (hide_set s) e x ≡ refusal_of s e x
+  pub refusal-hide : (s : LineSet) (e : List ℕ) (x : ReadEntry) → refusal_of (hide_set s) e x ≡ refusal_of s e x
   unfolding refusal_of
   refusal-hide s e x =
       let r = read_telegram (telegram_in e) in
-      let ch = named_by (asked_in x.desk r) x in
+      let ch = named_by (asked_in (entry_desk x) r) x in
       rw (lookup_hide s ch, rows-hide (lookup_in s ch) e r x table (blind (lookup_in s ch) e r x))
 
   -- ---- what an effect shows B, and what it leaves
@@ -280,19 +278,19 @@ module _ (B : ℕ) where
   request-hide t s d Foreign = rw (hides_twice s.channels)
 
   -- whether the entry answers a ring, t, is given: that alone may hang on a hidden number
-  pub accepted-hide : (t : Bool) (s : LineSet) (e : List ℕ) (x : Entry) → shown (accepted_by t (hide_set s) e x) ≡ shown (accepted_by t s e x)
+  pub accepted-hide : (t : Bool) (s : LineSet) (e : List ℕ) (x : ReadEntry) → shown (accepted_by t (hide_set s) e x) ≡ shown (accepted_by t s e x)
   unfolding accepted_by
   accepted-hide t s e x =
-      pick_matched (λ f g. shown f ≡ shown g) x.kind (effect (hide_set s) (hide_set s) []) (effect s s []) (ways t (hide_set s) e x) (ways t s e x) refl
+      pick_matched (λ f g. shown f ≡ shown g) (entry_kind x) (effect (hide_set s) (hide_set s) []) (effect s s []) (ways t (hide_set s) e x) (ways t s e x) refl
       (rw (hides_twice s.channels))
-      (request-hide t s x.desk (asked_in x.desk (read_telegram (telegram_in e)))
-      ▹ on-hide s x.channel (cond (eqb x.on 1) (PressOn x.desk (own_of s.desks x.desk)) PressOff)
-      ▹ on-hide s x.channel Cut
-      ▹ on-hide s x.channel (MobileOn x.base (number_in x.number))
-      ▹ on-hide s x.channel MobileOff
+      (request-hide t s (entry_desk x) (asked_in (entry_desk x) (read_telegram (telegram_in e)))
+      ▹ on-hide s (entry_channel x) (cond (entry_on x) (PressOn (entry_desk x) (own_of s.desks (entry_desk x))) PressOff)
+      ▹ on-hide s (entry_channel x) Cut
+      ▹ on-hide s (entry_channel x) (MobileOn (entry_base x) (number_in (entry_number x)))
+      ▹ on-hide s (entry_channel x) MobileOff
       ▹ tick-hide s
       ▹ refl
       ▹ handover_hide s
-      ▹ on-hide s x.channel (Ring (called_place s.desks s.size.desks x.called) x.base (number_in x.number))
-      ▹ on-hide s x.channel Cancel
+      ▹ on-hide s (entry_channel x) (Ring (called_place s.desks s.size.desks (entry_called x)) (entry_base x) (number_in (entry_number x)))
+      ▹ on-hide s (entry_channel x) Cancel
       ▹ tt)

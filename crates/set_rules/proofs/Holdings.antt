@@ -9,12 +9,12 @@ use native.Mathlib.Omega.{arith}
 use lib.Dec.{eqb}
 use lib.ListN.{take, drop, get_or, set}
 use borrow.Author.Tests.{eqb-true, eq-eqb, ltb-true}
+use Rattle.std.specs.Prelude.{Some}
 use Rattle.laws.proofs.Each.{◌▹◌}
 use Rattle.laws.proofs.Table.{pick_each}
 use Rattle.telegram.specs.Telegram.{read_telegram}
-use Rattle.telegram.specs.declared.message.Reading.{Reading}
+use Rattle.telegram.specs.Telegram.{Reading}
 use Rattle.channel.specs.State.{is_held}
-use Rattle.channel.specs.declared.state.Party.TheVariants.{By}
 use Rattle.channel.specs.declared.state.Channel.{Channel}
 use Rattle.channel.specs.declared.state.Event.{Event}
 use Rattle.channel.specs.declared.state.Event.TheVariants.{Capture, Release, Cut, MobileOff, Cancel, Tick}
@@ -23,7 +23,7 @@ use Rattle.line_rules.specs.Invariant.{Fits}
 use Rattle.line_rules.specs.Promises.{Ends as Ended}
 use Rattle.line_rules.proofs.Kept.{keeps_place, holding_lasts}
 use Rattle.set_state.specs.State.{new_set, no_channel, own_of, place_of, place_in, channels_of, channel_at, listeners_of}
-use Rattle.set_rules.specs.Entries.{read_entry, telegram_in}
+use Rattle.set_rules.specs.Entries.{read_entry, telegram_in, entry_kind, entry_desk, entry_channel, entry_on, ReadEntry}
 use Rattle.set_rules.specs.Plan.{set_of}
 use Rattle.set_rules.specs.Refusals.{asked_in, refusal_of}
 use Rattle.set_rules.specs.SetRules.{on_channel, ticked, on_tick, on_handover, answers_in, on_request, ways, accepted_by, accepted}
@@ -36,7 +36,6 @@ use Rattle.set_rules.proofs.Asked.{OnEvent, asked_in_lem, answer-rings}
 use Rattle.set_rules.proofs.Readable.{press_of, entry-fits, asked-ok, always_ok, at_ok}
 use Rattle.set_state.specs.declared.state.Desk.{Desk}
 use Rattle.set_state.specs.declared.state.LineSet.{LineSet}
-use Rattle.set_state.specs.declared.state.Entry.{Entry}
 use Rattle.set_state.specs.declared.state.LinkRequest.TheVariants.{TellsTime, TellsState}
 use Rattle.set_state.specs.declared.state.Request.{Request}
 use Rattle.set_state.specs.declared.state.Request.TheVariants.{OfLink, OnChannel, AnswersRing, Foreign}
@@ -117,12 +116,12 @@ request_planless t s d (OnChannel ch n v) h = h
 request_planless t s d (AnswersRing m) h = h
 request_planless t s d Foreign h = h
 
-accepted_planless : (s : LineSet) (e : List ℕ) (x : Entry) → Planless s → Planless (accepted s e x).after
+accepted_planless : (s : LineSet) (e : List ℕ) (x : ReadEntry) → Planless s → Planless (accepted s e x).after
 unfolding accepted_by accepted on_channel on_tick on_handover set_of
 accepted_planless s e x h =
-    let q = asked_in x.desk (read_telegram (telegram_in e)) in
-    pick_each (λ f. Planless f.after) x.kind _ (ways (answers_in s x.desk q) s e x) h
-    ((λ k. request_planless _ s x.desk q h)
+    let q = asked_in (entry_desk x) (read_telegram (telegram_in e)) in
+    pick_each (λ f. Planless f.after) (entry_kind x) _ (ways (answers_in s (entry_desk x) q) s e x) h
+    ((λ k. request_planless _ s (entry_desk x) q h)
     ▹ (λ k. h)
     ▹ (λ k. h)
     ▹ (λ k. h)
@@ -138,15 +137,15 @@ always_planless : (f : List Item) → Planless (after new_set f)
 always_planless f = feed_keeps Planless (λ s e z h. accepted_planless s e (read_entry e) h) new_set f (λ p. refl)
 
 -- so nobody holds anything there
-none-held : (s : LineSet) (ch d : ℕ) → s.size.channels ≡ 0 → (channel_at s ch).holder ≡ By d → ⊥
+none-held : (s : LineSet) (ch d : ℕ) → s.size.channels ≡ 0 → (channel_at s ch).holder ≡ Some d → ⊥
 none-held s ch d h held = false≢true (ap is_held (rw h at held))
 
 -- ---- holdings
 
-module _ (s : LineSet) (ok : SetOk s) (ch d : ℕ) (held : (channel_at s ch).holder ≡ By d) (E : Type 0) where
+module _ (s : LineSet) (ok : SetOk s) (ch d : ℕ) (held : (channel_at s ch).holder ≡ Some d) (E : Type 0) where
   -- desk d holds in a set after, or what ends its holding has come
   abbrev Lasts : LineSet → Type 0
-  Lasts t = ((channel_at t ch).holder ≡ By d) ⊎ E
+  Lasts t = ((channel_at t ch).holder ≡ Some d) ⊎ E
 
   -- an event on the channel of a code k
   on_lasts : (k : ℕ) (v : Event) → Fits v (channel_at s k) → (k ≡ ch → Ended v (channel_at s ch) d → E) → Lasts (on_channel s k v).after
@@ -157,12 +156,12 @@ module _ (s : LineSet) (ok : SetOk s) (ch d : ℕ) (held : (channel_at s ch).hol
       rw (take-set s.size.channels s.channels (place_in s k) c)
       (go c (λ h. holding_lasts v e (channel_at s k) d fits (at_ok s ok k) h) (found_after ch k (channels_of s) c (keeps_place v e (channel_at s k)).0))
     where
-      here : (c b : Channel) → k ≡ ch → b ≡ c → (c.holder ≡ By d) ⊎ Ended v (channel_at s k) d → (b.holder ≡ By d) ⊎ E
+      here : (c b : Channel) → k ≡ ch → b ≡ c → (c.holder ≡ Some d) ⊎ Ended v (channel_at s k) d → (b.holder ≡ Some d) ⊎ E
       here c b p q (inl h) = inl (rw q h)
       here c b p q (inr a) = inr (ends p (rw p at a))
 
-      go : (c : Channel) → ((channel_at s k).holder ≡ By d → (c.holder ≡ By d) ⊎ Ended v (channel_at s k) d)
-          → Found ch k (channels_of s) c → ((coded ch (set (channels_of s) (place_in s k) c)).holder ≡ By d) ⊎ E
+      go : (c : Channel) → ((channel_at s k).holder ≡ Some d → (c.holder ≡ Some d) ⊎ Ended v (channel_at s k) d)
+          → Found ch k (channels_of s) c → ((coded ch (set (channels_of s) (place_in s k) c)).holder ≡ Some d) ⊎ E
       go c l (inl q) = inl (rw q held)
       go c l (inr q) = here c _ q.0 q.1 (l (rw q.0 held))
 
@@ -189,11 +188,11 @@ fails-first : (t u : Bool) → (t && u) ≡ false → u ≡ true → t ≡ false
 fails-first true u h p = sym p ∙ h
 fails-first false u h p = refl
 
-module _ (f : List Item) (i : Item) (ch d : ℕ) (held : (channel_at (after new_set f) ch).holder ≡ By d) where
+module _ (f : List Item) (i : Item) (ch d : ℕ) (held : (channel_at (after new_set f) ch).holder ≡ Some d) where
   abbrev s : LineSet
   s = after new_set f
 
-  abbrev x : Entry
+  abbrev x : ReadEntry
   x = read_entry i.entry
 
   abbrev r : Reading
@@ -211,26 +210,26 @@ module _ (f : List Item) (i : Item) (ch d : ℕ) (held : (channel_at (after new_
   on : (k : ℕ) (v : Event) → Fits v (channel_at s k) → (k ≡ ch → Ended v (channel_at s ch) d → Over) → Stays (on_channel s k v).after
   on = on_lasts s ok ch d held Over
 
-  request_lasts : x.kind ≡ 1 → (q : Request) → asked_in x.desk r ≡ q → OnEvent (ForItself x.desk) q
-      → Stays (on_request (answers_in s x.desk q) s x.desk q).after
+  request_lasts : entry_kind x ≡ 1 → (q : Request) → asked_in (entry_desk x) r ≡ q → OnEvent (ForItself (entry_desk x)) q
+      → Stays (on_request (answers_in s (entry_desk x) q) s (entry_desk x) q).after
   request_lasts k (OfLink TellsTime) p o = inl held
   request_lasts k (OfLink (TellsState a)) p o = inl held
   request_lasts k (OnChannel ch' n v) p (inl o) = on ch' v (rw o tt) (λ q a. absurd (rw o at a))
   request_lasts k (OnChannel ch' n v) p (inr o) =
       on ch' v (rw o tt)
-      (λ q a. let own : x.desk ≡ d = rw o at a in released n k own (rw (sym own, p, q, o)))
+      (λ q a. let own : entry_desk x ≡ d = rw o at a in released n k own (rw (sym own, p, q, o)))
   request_lasts k (AnswersRing m) p o =
-      on m.channel _ (answer-rings x.desk (own_of s.desks x.desk) m (channel_at s m.channel)) (λ q a. absurd a)
+      on m.channel _ (answer-rings (entry_desk x) (own_of s.desks (entry_desk x)) m (channel_at s m.channel)) (λ q a. absurd a)
   request_lasts k Foreign p o = inl held
 
   -- a press frees nothing
-  press_lasts : (t : Bool) → Fits (press_of s x t) (channel_at s x.channel) → Stays (on_channel s x.channel (press_of s x t)).after
-  press_lasts true f = on x.channel _ f (λ q a. absurd a)
-  press_lasts false f = on x.channel _ f (λ q a. absurd a)
+  press_lasts : (t : Bool) → Fits (press_of s x t) (channel_at s (entry_channel x)) → Stays (on_channel s (entry_channel x) (press_of s x t)).after
+  press_lasts true f = on (entry_channel x) _ f (λ q a. absurd a)
+  press_lasts false f = on (entry_channel x) _ f (λ q a. absurd a)
 
   -- a cut is the holder's
-  own-cut : (channel_at s x.channel).holder ≡ By x.desk → x.channel ≡ ch → x.desk ≡ d
-  own-cut h q = let same : By x.desk ≡ By d = sym (rw q at h) ∙ held in cc
+  own-cut : (channel_at s (entry_channel x)).holder ≡ Some (entry_desk x) → entry_channel x ≡ ch → entry_desk x ≡ d
+  own-cut h q = let same : Some (entry_desk x) ≡ Some d = sym (rw q at h) ∙ held in cc
 
   -- the release timer of a held channel runs
   last-second : (channel_at s ch).release ≤ 1 → (channel_at s ch).release ≡ 1
@@ -239,9 +238,9 @@ module _ (f : List Item) (i : Item) (ch d : ℕ) (held : (channel_at (after new_
       omega (arith, l, ltb-true 0 (channel_at s ch).release runs)
 
   -- there is a plan, so another is refused: row 5
-  no_plan_lem : refusal_of s i.entry x ≡ 0 → x.kind ≡ 7 → ⊥
+  no_plan_lem : refusal_of s i.entry x ≡ 0 → entry_kind x ≡ 7 → ⊥
   no_plan_lem z k =
-      let p = fails-first s.planned (eqb x.kind 7) (no_row s i.entry x z).row5-fails (eq-eqb x.kind 7 k) in
+      let p = fails-first s.planned (eqb (entry_kind x) 7) (no_row s i.entry x z).row5-fails (eq-eqb (entry_kind x) 7 k) in
       none-held s ch d (always_planless f p) held
 
   accepted_lasts : (step_by s i).refusal ≡ 0 → Stays (accepted s i.entry x).after
@@ -249,11 +248,11 @@ module _ (f : List Item) (i : Item) (ch d : ℕ) (held : (channel_at (after new_
   accepted_lasts z =
       let taken = (accepted-after s i z).0 in
       let fits = entry-fits s ok i.entry x (asked-ok i.entry) taken in
-      let asked = asked_in x.desk r in
-      let here = on x.channel in
-      pick_each (λ w. Stays w.after) x.kind _ (ways (answers_in s x.desk asked) s i.entry x) (inl held)
-      ((λ k. request_lasts k asked refl (asked_in_lem (ForItself x.desk) x.desk (inl refl) (inr refl) r))
-      ▹ (λ k. press_lasts (eqb x.on 1) (fits.press-fits k))
+      let asked = asked_in (entry_desk x) r in
+      let here = on (entry_channel x) in
+      pick_each (λ w. Stays w.after) (entry_kind x) _ (ways (answers_in s (entry_desk x) asked) s i.entry x) (inl held)
+      ((λ k. request_lasts k asked refl (asked_in_lem (ForItself (entry_desk x)) (entry_desk x) (inl refl) (inr refl) r))
+      ▹ (λ k. press_lasts (entry_on x) (fits.press-fits k))
       ▹ (λ k. here Cut (fits.cut_fits k) (λ q a. cut k (own-cut ((finds s i z).cut-held k) q) q))
       ▹ (λ k. here _ (fits.on_fits k) (λ q a. absurd a))
       ▹ (λ k. here MobileOff (fits.off-fits k) (λ q a. absurd a))

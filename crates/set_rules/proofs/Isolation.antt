@@ -13,25 +13,21 @@ use lib.Dec.{eqb, leb, ltb}
 use lib.ListN.{length, length-take, get_or, take, drop}
 use lib.Seq.{get_or-take, drop-drop}
 use borrow.Author.Tests.{eqb-true, eqb-false, not-false}
+use Rattle.std.specs.Prelude.{Option, Some, None, Ok, Err}
 use Rattle.laws.specs.Alike.{AlikeBut}
 use Rattle.laws.specs.Table.{pick}
 use Rattle.laws.proofs.Alike.{byte-alike, rest-alike}
 use Rattle.laws.proofs.Tests.{both, by_test}
-use Rattle.numerals.specs.declared.digits.Digits.{Digits}
-use Rattle.numerals.specs.declared.digits.Digits.TheVariants.{Value, Malformed}
 use Rattle.telegram.specs.Promises.{AlikeButSource, refused, read}
 use Rattle.telegram.specs.Telegram.{read_telegram}
 use Rattle.telegram.specs.declared.message.Number.{Number}
-use Rattle.telegram.specs.declared.message.RingAnswer.{RingAnswer}
-use Rattle.telegram.specs.declared.message.Reading.{Reading}
+use Rattle.telegram.specs.declared.message.Ring.{Ring as RingAnswer}
+use Rattle.telegram.specs.Telegram.{Reading}
 use Rattle.telegram.proofs.Kept.{source_apart}
 use Rattle.channel.specs.State.{is_in, only}
 use Rattle.channel.specs.declared.state.Call.{Call}
-use Rattle.channel.specs.declared.state.Call.TheVariants.{Closed, Open}
 use Rattle.channel.specs.declared.state.Channel.{Channel}
 use Rattle.channel.specs.declared.state.Event.TheVariants.{MobileOn, Ring}
-use Rattle.channel.specs.declared.state.Party.{Party}
-use Rattle.channel.specs.declared.state.Party.TheVariants.{Nobody, By}
 use Rattle.line_rules.specs.Rules.{is_ringing, happens, mobile_recipients}
 use Rattle.line_rules.specs.Turns.{told_of_call}
 use Rattle.line_rules.specs.Veil.{veil, hide_call, hide}
@@ -40,10 +36,12 @@ use Rattle.set_state.specs.State.{new_set, no_desk, is_running, running_from, li
 use Rattle.frames.specs.Bytes.{byte}
 use Rattle.set_state.specs.declared.state.Desk.{Desk}
 use Rattle.set_state.specs.declared.state.LineSet.{LineSet}
-use Rattle.set_state.specs.declared.state.Entry.{Entry}
+use Rattle.set_state.specs.Entry.{refusal_in}
+use Rattle.set_state.specs.declared.state.Refusal.TheVariants.{Length, Version, Payload}
+use Rattle.set_state.specs.declared.state.Entry.TheVariants.{Telegram, MobileOn as TalkOn, MobileCall}
 use Rattle.set_state.specs.declared.state.Request.{Request}
 use Rattle.set_state.specs.declared.state.Request.TheVariants.{OfLink, OnChannel, AnswersRing, Foreign}
-use Rattle.set_rules.specs.Entries.{measured, read_entry, size_ok, asks, bad, mobile_in, called_in, telegram_in}
+use Rattle.set_rules.specs.Entries.{measured, read_entry, size_ok, mobile_in, called_in, telegram_in, entry_kind, entry_desk, entry_channel, entry_base, entry_number, entry_called, ReadEntry}
 use Rattle.set_rules.specs.Refusals.{lookup_in, is_kind, asked_in, named, named_by, is_caller, number_in, called_place, first_of, refusal_of, table}
 use Rattle.set_rules.specs.Records.{space_of}
 use Rattle.set_rules.specs.SetRules.{Effect, on_channel, is_called, caller_of, answers_ring, answers_in, on_request, accepted_by, accepted}
@@ -118,15 +116,15 @@ module _ (B : ℕ) where
       cond (eqb n 0) (cond (leb w.space room) (viewed 0 w.space w.got w.left) (viewed 16 0 [] h)) (viewed n 0 [] h)
 
   -- by whether the entry answers a ring
-  abbrev view_of : Bool → LineSet → List ℕ → Entry → ℕ → View
+  abbrev view_of : Bool → LineSet → List ℕ → ReadEntry → ℕ → View
   view_of t s e x room = view_by (refusal_of s e x) (shown B (accepted_by t s e x)) (hide_set B s) room
 
   -- only a telegram does
   accepted-is : (s : LineSet) (e : List ℕ) → accepted s e (read_entry e) ≡ accepted_by (matches_in s e) s e (read_entry e)
   unfolding accepted accepted_by pick
-  accepted-is s e = go (eqb (read_entry e).kind 1) refl
+  accepted-is s e = go (eqb (entry_kind (read_entry e)) 1) refl
     where
-      go : (t : Bool) → eqb (read_entry e).kind 1 ≡ t → accepted s e (read_entry e) ≡ accepted_by (matches_in s e) s e (read_entry e)
+      go : (t : Bool) → eqb (entry_kind (read_entry e)) 1 ≡ t → accepted s e (read_entry e) ≡ accepted_by (matches_in s e) s e (read_entry e)
       go true k = rw k
       go false k = rw k
 
@@ -143,18 +141,18 @@ module _ (B : ℕ) where
       go false k u l = rw k
 
   -- what is left of a set shows B all that the set does
-  view_of-hide : (t : Bool) (s : LineSet) (e : List ℕ) (x : Entry) (room : ℕ) → view_of t (hide_set B s) e x room ≡ view_of t s e x room
+  view_of-hide : (t : Bool) (s : LineSet) (e : List ℕ) (x : ReadEntry) (room : ℕ) → view_of t (hide_set B s) e x room ≡ view_of t s e x room
   view_of-hide t s e x room =
       let h : hide_set B (hide_set B s) ≡ hide_set B s = ap (λ (l : List Channel). with_channels l s) (hides_twice B s.channels) in
       ap (λ (n : ℕ). view_by n (shown B (accepted_by t (hide_set B s) e x)) (hide_set B (hide_set B s)) room) (refusal-hide B s e x)
       ∙ ap (λ (w : Shown B). view_by (refusal_of s e x) w (hide_set B (hide_set B s)) room) (accepted-hide B t s e x)
       ∙ ap (λ (l : LineSet). view_by (refusal_of s e x) (shown B (accepted_by t s e x)) l room) h
 
-  view_of-same : (t : Bool) (s s' : LineSet) → hide_set B s ≡ hide_set B s' → (e : List ℕ) (x : Entry) (room : ℕ) → view_of t s e x room ≡ view_of t s' e x room
+  view_of-same : (t : Bool) (s s' : LineSet) → hide_set B s ≡ hide_set B s' → (e : List ℕ) (x : ReadEntry) (room : ℕ) → view_of t s e x room ≡ view_of t s' e x room
   view_of-same t s s' h e x room = sym (view_of-hide t s e x room) ∙ ap (λ (u : LineSet). view_of t u e x room) h ∙ view_of-hide t s' e x room
 
   -- the rows and the rules show the same
-  both-viewed : (t : Bool) (s : LineSet) (e e' : List ℕ) (x x' : Entry) (room : ℕ) → refusal_of s e x ≡ refusal_of s e' x'
+  both-viewed : (t : Bool) (s : LineSet) (e e' : List ℕ) (x x' : ReadEntry) (room : ℕ) → refusal_of s e x ≡ refusal_of s e' x'
       → (refusal_of s e x ≡ 0 → shown B (accepted_by t s e x) ≡ shown B (accepted_by t s e' x')) → view_of t s e x room ≡ view_of t s e' x' room
   both-viewed t s e e' x x' room p q = go (eqb (refusal_of s e x) 0) refl ∙ ap (λ (n : ℕ). view_by n (shown B (accepted_by t s e' x')) (hide_set B s) room) p
     where
@@ -165,11 +163,11 @@ module _ (B : ℕ) where
   -- ---- entries that differ
 
   -- an entry that could be read, or the refusal that it gets
-  abbrev chosen : Bool → Bool → Bool → Entry → Entry
-  chosen u v w x = cond u (cond v (cond w x (bad 3)) (bad 2)) (bad 1)
+  abbrev chosen : Bool → Bool → Bool → ReadEntry → ReadEntry
+  chosen u v w x = cond u (cond v (cond w x (Err Payload)) (Err Version)) (Err Length)
 
   -- two that show the same where they could be read show the same
-  chosen-viewed : (t : Bool) (s : LineSet) (e e' : List ℕ) (x x' : Entry) (room : ℕ) (u v w : Bool)
+  chosen-viewed : (t : Bool) (s : LineSet) (e e' : List ℕ) (x x' : ReadEntry) (room : ℕ) (u v w : Bool)
       → (chosen u v w x ≡ x → view_of t s e x room ≡ view_of t s e' x' room) → view_of t s e (chosen u v w x) room ≡ view_of t s e' (chosen u v w x') room
   unfolding refusal_of
   chosen-viewed t s e e' x x' room true true true p = p refl
@@ -180,18 +178,17 @@ module _ (B : ℕ) where
   -- ---- mobile ons and mobile calls
 
   -- an entry of kind 4 or 9 with these digits for the mobile's number
-  abbrev numbered : ℕ → List ℕ → Digits → Entry
-  numbered k e d =
-      record { refusal = 0; kind = k; desk = 0; channel = byte e 4; on = 0; base = byte e 5; number = d; called = cond (eqb k 9) (called_in e) Malformed }
+  abbrev numbered : ℕ → List ℕ → Option ℕ → ReadEntry
+  numbered k e d = cond (eqb k 9) (Ok (MobileCall (byte e 4) (byte e 5) d (called_in e))) (Ok (TalkOn (byte e 4) (byte e 5) d))
 
-  abbrev read_as : ℕ → List ℕ → Digits → Entry
+  abbrev read_as : ℕ → List ℕ → Option ℕ → ReadEntry
   read_as k e d = chosen (measured e) (eqb (byte e 2) 1) (size_ok k (length e) && leb (byte e 5) 29) (numbered k e d)
 
   -- such bytes read so
   abbrev Reads : ℕ → Type 0
   Reads k = (e : List ℕ) → byte e 3 ≡ k → read_entry e ≡ read_as k e (mobile_in e)
 
-  flat : (a b : Bool) (x y : Entry) → cond (a && true && b) x y ≡ cond (a && b) x y
+  flat : (a b : Bool) (x y : ReadEntry) → cond (a && true && b) x y ≡ cond (a && b) x y
   flat true b x y = refl
   flat false b x y = refl
 
@@ -203,7 +200,7 @@ module _ (B : ℕ) where
   unfolding read_entry pick
   read-call e k = rw k (simp flat refl)
 
-  read_but : (k : ℕ) (e e' : List ℕ) (d : Digits) → AlikeBut 6 8 e e' → read_as k e d ≡ read_as k e' d
+  read_but : (k : ℕ) (e e' : List ℕ) (d : Option ℕ) → AlikeBut 6 8 e e' → read_as k e d ≡ read_as k e' d
   read_but k e e' d w =
       let b : (i : ℕ) → i < 6 → byte e i ≡ byte e' i = byte-alike 6 8 e e' w in
       let called : drop 14 e ≡ drop 14 e' = w.back in
@@ -213,29 +210,40 @@ module _ (B : ℕ) where
   kind-alike {k} {e} {e'} w = sym (byte-alike 6 8 e e' w.bytes 3 (omega arith)) ∙ w.kind-is
 
   -- the rows look at a mobile's number only to see whether it can be one
-  numbered-rows : (k : ℕ) → eqb k 1 ≡ false → eqb k 7 ≡ false → (s : LineSet) (e e' : List ℕ) (d d' : Digits) → is_caller d ≡ is_caller d'
-      → refusal_of s e (numbered k e d) ≡ refusal_of s e' (numbered k e d')
-  unfolding refusal_of first_of
-  numbered-rows k n1 n7 s e e' d d' h = rw (n1, n7, h) refl
+  abbrev RowsAlike : ℕ → Type 0
+  RowsAlike k =
+      (s : LineSet) (e e' : List ℕ) (d d' : Option ℕ) → is_caller d ≡ is_caller d' → refusal_of s e (numbered k e d) ≡ refusal_of s e' (numbered k e d')
+
+  talk-rows : RowsAlike 4
+  unfolding refusal_of first_of entry_kind entry_desk entry_channel entry_number entry_called
+  talk-rows s e e' d d' h = rw h refl
+
+  call-rows : RowsAlike 9
+  unfolding refusal_of first_of entry_kind entry_desk entry_channel entry_number entry_called
+  call-rows s e e' d d' h = rw h refl
+
+  -- and it is one that can be read
+  taken-as : (k : ℕ) (e : List ℕ) (d : Option ℕ) → refusal_in (numbered k e d) ≡ 0
+  taken-as k e d = by_test (eqb k 9) (λ p. rw p refl) (λ p. rw p refl)
 
   -- so two that show B the same where they are accepted show it the same
-  numbered-viewed : (k : ℕ) → eqb k 1 ≡ false → eqb k 7 ≡ false → Reads k → (t : Bool) (s : LineSet) (e e' : List ℕ) (room : ℕ) → Renumbered k e e'
+  numbered-viewed : (k : ℕ) → RowsAlike k → Reads k → (t : Bool) (s : LineSet) (e e' : List ℕ) (room : ℕ) → Renumbered k e e'
       → (refusal_of s e (numbered k e (mobile_in e)) ≡ 0
       → shown B (accepted_by t s e (numbered k e (mobile_in e))) ≡ shown B (accepted_by t s e' (numbered k e (mobile_in e'))))
       → view_of t s e (read_entry e) room ≡ view_of t s e' (read_entry e') room
-  numbered-viewed k n1 n7 reads t s e e' room w does =
+  numbered-viewed k rows reads t s e e' room w does =
       let x = numbered k e (mobile_in e) in
       let x' = numbered k e (mobile_in e') in
-      let right : read_as k e (mobile_in e) ≡ x → (read_entry e).refusal ≡ 0 = λ p. ap (λ (y : Entry). y.refusal) (reads e w.kind-is ∙ p) in
-      ap (λ (y : Entry). view_of t s e y room) (reads e w.kind-is)
+      let right : read_as k e (mobile_in e) ≡ x → refusal_in (read_entry e) ≡ 0 = λ p. ap (λ (y : ReadEntry). refusal_in y) (reads e w.kind-is ∙ p) ∙ taken-as k e (mobile_in e) in
+      ap (λ (y : ReadEntry). view_of t s e y room) (reads e w.kind-is)
       ∙ chosen-viewed t s e e' x x' room (measured e) (eqb (byte e 2) 1) (size_ok k (length e) && leb (byte e 5) 29)
-      (λ p. both-viewed t s e e' x x' room (numbered-rows k n1 n7 s e e' (mobile_in e) (mobile_in e') (w.callers (right p))) does)
-      ∙ ap (λ (y : Entry). view_of t s e' y room) (read_but k e e' (mobile_in e') w.bytes ∙ sym (reads e' (kind-alike w)))
+      (λ p. both-viewed t s e e' x x' room (rows s e e' (mobile_in e) (mobile_in e') (w.callers (right p))) does)
+      ∙ ap (λ (y : ReadEntry). view_of t s e' y room) (read_but k e e' (mobile_in e') w.bytes ∙ sym (reads e' (kind-alike w)))
 
   -- a mobile on under another desk shows B the same whatever its number
-  talk-shown : (t : Bool) (s : LineSet) (e e' : List ℕ) (d d' : Digits) → OtherHolds B (channel_at s (byte e 4)).holder
+  talk-shown : (t : Bool) (s : LineSet) (e e' : List ℕ) (d d' : Option ℕ) → OtherHolds B (channel_at s (byte e 4)).holder
       → shown B (accepted_by t s e (numbered 4 e d)) ≡ shown B (accepted_by t s e' (numbered 4 e d'))
-  unfolding accepted_by pick on_channel happens
+  unfolding accepted_by pick on_channel happens entry_kind entry_desk entry_channel entry_base entry_number
   talk-shown t s e e' d d' o =
       let c = channel_at s (byte e 4) in
       let m = listeners_of s.desks s.size.desks c in
@@ -243,28 +251,28 @@ module _ (B : ℕ) where
       let v' = MobileOn (byte e 5) (number_in d') in
       place-shown B s (place_in s (byte e 4)) c (happens v m c) (happens v' m c) (number_hidden B m (byte e 5) (number_in d) (number_in d') c (unheard c.holder m o))
     where
-      unheard : (h : Party) (m : ℕ) → OtherHolds B h → is_in B (mobile_recipients h m) ≡ false
-      unheard Nobody m o = absurd o
-      unheard (By d) m o = only-other B d o
+      unheard : (h : Option ℕ) (m : ℕ) → OtherHolds B h → is_in B (mobile_recipients h m) ≡ false
+      unheard None m o = absurd o
+      unheard (Some d) m o = only-other B d o
 
   -- a desk that listens and has the called number is not B, if that is not B's
-  unrung : (s : LineSet) (c : Channel) (called : Digits) → NotCalled B s called → is_caller called ≡ true
+  unrung : (s : LineSet) (c : Channel) (called : Option ℕ) → NotCalled B s called → is_caller called ≡ true
       → is_in (called_place s.desks s.size.desks called) (listeners_of s.desks s.size.desks c) ≡ true
       → is_in B (only (called_place s.desks s.size.desks called)) ≡ false
-  unrung s c Malformed o a l = absurd (false≢true a)
-  unrung s c (Value v) o a l =
+  unrung s c None o a l = absurd (false≢true a)
+  unrung s c (Some v) o a l =
       let n = s.size.desks in
       let p = desk_place v (take n s.desks) in
       let i : p < length (take n s.desks) = listens_planned s.desks n c p l in
       let below : p < n = omega (arith, i, length-take n s.desks) in
       let has : (own_of s.desks p).digits ≡ v =
       sym (ap (λ (k : Desk). k.number.digits) (get_or-take n s.desks p no_desk below)) ∙ place-number v (take n s.desks) i in
-      only-other B p (λ q. o (omega (arith, below, q)) (sym (ap (λ (j : ℕ). Value (own_of s.desks j).digits) (sym q) ∙ ap Value has)))
+      only-other B p (λ q. o (omega (arith, below, q)) (sym (ap (λ (j : ℕ). Some (own_of s.desks j).digits) (sym q) ∙ ap Some has)))
 
   -- a mobile call of another desk shows B the same whatever its number
-  call-shown : (t : Bool) (s : LineSet) (e e' : List ℕ) (d d' : Digits) → NotCalled B s (called_in e) → refusal_of s e (numbered 9 e d) ≡ 0
+  call-shown : (t : Bool) (s : LineSet) (e e' : List ℕ) (d d' : Option ℕ) → NotCalled B s (called_in e) → refusal_of s e (numbered 9 e d) ≡ 0
       → shown B (accepted_by t s e (numbered 9 e d)) ≡ shown B (accepted_by t s e' (numbered 9 e d'))
-  unfolding accepted_by pick on_channel happens
+  unfolding accepted_by pick on_channel happens entry_kind entry_desk entry_channel entry_base entry_number entry_called
   call-shown t s e e' d d' o z =
       let c = channel_at s (byte e 4) in
       let m = listeners_of s.desks s.size.desks c in
@@ -277,11 +285,11 @@ module _ (B : ℕ) where
 
   -- ---- ring answers
 
-  abbrev telegram_by : List ℕ → Entry
-  telegram_by e = asks 1 (byte e 4) 0 0 0 Malformed
+  abbrev telegram_by : List ℕ → ReadEntry
+  telegram_by e = Ok (Telegram (byte e 4))
 
   -- a telegram of these bytes
-  abbrev read_by : List ℕ → Entry
+  abbrev read_by : List ℕ → ReadEntry
   read_by e = chosen (measured e) (eqb (byte e 2) 1) (leb 5 (length e)) (telegram_by e)
 
   read-telegram : (e : List ℕ) → byte e 3 ≡ 1 → read_entry e ≡ read_by e
@@ -305,9 +313,9 @@ module _ (B : ℕ) where
 
   -- the rows see the same of readings that are alike but for a source, and the rules do the same
   answer-rows : (s : LineSet) (e e' : List ℕ) (d : ℕ) {r r' : Reading} → AlikeButSource r r'
-      → let x : Entry = asks 1 d 0 0 0 Malformed in
+      → let x : ReadEntry = Ok (Telegram d) in
       first_of table (lookup_in s (named_by (asked_in d r) x)) e r x ≡ first_of table (lookup_in s (named_by (asked_in d r') x)) e' r' x
-  unfolding first_of
+  unfolding first_of entry_kind entry_desk entry_channel entry_number entry_called
   answer-rows s e e' d refused = refl
   answer-rows s e e' d read = refl
 
@@ -316,36 +324,36 @@ module _ (B : ℕ) where
   answer-does t s d read = refl
 
   answer-viewed : (t : Bool) (s : LineSet) (e e' : List ℕ) (room : ℕ) → OtherSource B e e' → view_of t s e (read_entry e) room ≡ view_of t s e' (read_entry e') room
-  unfolding refusal_of accepted_by pick
+  unfolding refusal_of accepted_by pick entry_kind entry_desk entry_channel
   answer-viewed t s e e' room w =
       let r = read_answer e e' w in
       let a = reads-alike e e' w in
-      ap (λ (x : Entry). view_of t s e x room) r.0
+      ap (λ (x : ReadEntry). view_of t s e x room) r.0
       ∙ chosen-viewed t s e e' (telegram_by e) (telegram_by e) room (measured e) (eqb (byte e 2) 1) (leb 5 (length e))
       (λ p. both-viewed t s e e' (telegram_by e) (telegram_by e) room (answer-rows s e e' (byte e 4) a) (λ z. ap (shown B) (answer-does t s (byte e 4) a)))
-      ∙ sym (ap (λ (x : Entry). view_of t s e' x room) r.1)
+      ∙ sym (ap (λ (x : ReadEntry). view_of t s e' x room) r.1)
 
   -- ---- two entries that may stand for each other
 
   view_of-alike : (t : Bool) (s : LineSet) (e e' : List ℕ) (room : ℕ) → MayDiffer B s e e' → view_of t s e (read_entry e) room ≡ view_of t s e' (read_entry e') room
   view_of-alike t s e e' room (same p) = ap (λ (l : List ℕ). view_of t s l (read_entry l) room) p
   view_of-alike t s e e' room (talks w o) =
-      numbered-viewed 4 refl refl read-talk t s e e' room w (λ z. talk-shown t s e e' (mobile_in e) (mobile_in e') o)
+      numbered-viewed 4 talk-rows read-talk t s e e' room w (λ z. talk-shown t s e e' (mobile_in e) (mobile_in e') o)
   view_of-alike t s e e' room (calls-other w o) =
-      numbered-viewed 9 refl refl read-call t s e e' room w (call-shown t s e e' (mobile_in e) (mobile_in e') o)
+      numbered-viewed 9 call-rows read-call t s e e' room w (call-shown t s e e' (mobile_in e) (mobile_in e') o)
   view_of-alike t s e e' room (other-answers w) = answer-viewed t s e e' room w
 
   -- ---- whether they answer a ring
 
-  told-hide : (d : ℕ) (k : Call) → told_of_call d (hide_call B k) ≡ told_of_call d k
-  told-hide d Closed = refl
-  told-hide d (Open k w m b n) = refl
+  told-hide : (d : ℕ) (k : Option Call) → told_of_call d (hide_call B k) ≡ told_of_call d k
+  told-hide d None = refl
+  told-hide d (Some k) = refl
 
   -- the number of a call that B was told of is not hidden from it
-  caller_told : (k : Call) → told_of_call B k ≡ true → caller_of (hide_call B k) ≡ caller_of k
+  caller_told : (k : Option Call) → told_of_call B k ≡ true → caller_of (hide_call B k) ≡ caller_of k
   unfolding veil
-  caller_told Closed h = refl
-  caller_told (Open k w m b n) h = rw h refl
+  caller_told None h = refl
+  caller_told (Some k) h = rw h refl
 
   -- a desk that is not called answers no ring
   uncalled : (d : ℕ) (own : Number) (m : RingAnswer) (c : Channel) → is_called d c ≡ false → answers_ring d own m c ≡ false
@@ -407,48 +415,51 @@ module _ (B : ℕ) where
     asked-other : {d d' : ℕ} {q q' : Request} → AskedAlike d q d' q' → called_by s d q ≡ false → answers_in s d q ≡ answers_in s' d' q'
     asked-other {d} {d'} {q} {q'} a n = answers-none s d q n ∙ sym (answers-none s' d' q' (sym (asked_called a) ∙ n))
 
-  abbrev asked_of : Entry → Reading → Request
-  asked_of x r = cond (is_kind 1 x) (asked_in x.desk r) Foreign
+  abbrev asked_of : ReadEntry → Reading → Request
+  asked_of x r = cond (is_kind 1 x) (asked_in (entry_desk x) r) Foreign
 
   -- mobile ons and mobile calls ask nothing by telegram
-  chosen-silent : (u v w : Bool) (x : Entry) (r : Reading) → is_kind 1 x ≡ false → asked_of (chosen u v w x) r ≡ Foreign
+  chosen-silent : (u v w : Bool) (x : ReadEntry) (r : Reading) → is_kind 1 x ≡ false → asked_of (chosen u v w x) r ≡ Foreign
+  unfolding entry_kind entry_desk
   chosen-silent true true true x r h = rw h
   chosen-silent true true false x r h = refl
   chosen-silent true false w x r h = refl
   chosen-silent false v w x r h = refl
 
-  numbered-silent : (k : ℕ) → eqb k 1 ≡ false → Reads k → (e : List ℕ) → byte e 3 ≡ k → request_in e ≡ Foreign
+  numbered-silent : (k : ℕ) → ((e : List ℕ) → is_kind 1 (numbered k e (mobile_in e)) ≡ false) → Reads k → (e : List ℕ) → byte e 3 ≡ k → request_in e ≡ Foreign
   numbered-silent k n1 reads e p =
       let r = read_telegram (telegram_in e) in
-      ap (λ (x : Entry). asked_of x r) (reads e p)
-      ∙ chosen-silent (measured e) (eqb (byte e 2) 1) (size_ok k (length e) && leb (byte e 5) 29) (numbered k e (mobile_in e)) r n1
+      ap (λ (x : ReadEntry). asked_of x r) (reads e p)
+      ∙ chosen-silent (measured e) (eqb (byte e 2) 1) (size_ok k (length e) && leb (byte e 5) 29) (numbered k e (mobile_in e)) r (n1 e)
 
   answer-asked : (u v w : Bool) (d : ℕ) → (d ≡ B → ⊥) → {r r' : Reading} → AlikeButSource r r'
-      → let x : Entry = chosen u v w (asks 1 d 0 0 0 Malformed) in
-      AskedAlike x.desk (asked_of x r) x.desk (asked_of x r')
+      → let x : ReadEntry = chosen u v w (Ok (Telegram d)) in
+      AskedAlike (entry_desk x) (asked_of x r) (entry_desk x) (asked_of x r')
+  unfolding entry_kind entry_desk
   answer-asked true true true d o refused = alike d Foreign
   answer-asked true true true d o read = sourced d _ _ _ _ _ o
   answer-asked true true false d o a = nothing 0 0
   answer-asked true false w d o a = nothing 0 0
   answer-asked false v w d o a = nothing 0 0
 
-  may-asked : (s : LineSet) (e e' : List ℕ) → MayDiffer B s e e' → AskedAlike (read_entry e).desk (request_in e) (read_entry e').desk (request_in e')
+  may-asked : (s : LineSet) (e e' : List ℕ) → MayDiffer B s e e' → AskedAlike (entry_desk (read_entry e)) (request_in e) (entry_desk (read_entry e')) (request_in e')
+  unfolding entry_kind
   may-asked s e e' (same p) = rw p (alike _ _)
-  may-asked s e e' (talks w o) = rw (numbered-silent 4 refl read-talk e w.kind-is, numbered-silent 4 refl read-talk e' (kind-alike w)) (nothing _ _)
-  may-asked s e e' (calls-other w o) = rw (numbered-silent 9 refl read-call e w.kind-is, numbered-silent 9 refl read-call e' (kind-alike w)) (nothing _ _)
+  may-asked s e e' (talks w o) = rw (numbered-silent 4 (λ e. refl) read-talk e w.kind-is, numbered-silent 4 (λ e. refl) read-talk e' (kind-alike w)) (nothing _ _)
+  may-asked s e e' (calls-other w o) = rw (numbered-silent 9 (λ e. refl) read-call e w.kind-is, numbered-silent 9 (λ e. refl) read-call e' (kind-alike w)) (nothing _ _)
   may-asked s e e' (other-answers w) =
       let r = read_answer e e' w in
       rw (r.0, r.1) (answer-asked (measured e) (eqb (byte e 2) 1) (leb 5 (length e)) (byte e 4) w.other (reads-alike e e' w))
 
   -- The condition on ring answers (`Promises.Alike`) holds by itself of B's own, and of those of a desk that is not called.
   pub own_agrees : (s s' : LineSet) → hide_set B s ≡ hide_set B s' → (e e' : List ℕ) → MayDiffer B s e e'
-      → ((read_entry e).desk ≡ B) ⊎ (from_called s e ≡ false) → matches_in s e ≡ matches_in s' e'
+      → (entry_desk (read_entry e) ≡ B) ⊎ (from_called s e ≡ false) → matches_in s e ≡ matches_in s' e'
   own_agrees s s' h e e' a (inl p) = asked-own s s' h (may-asked s e e' a) p
   own_agrees s s' h e e' a (inr n) = asked-other s s' h (may-asked s e e' a) n
 
   all-agree : (s s' : LineSet) → hide_set B s ≡ hide_set B s' → (e e' : List ℕ) → Alike B s s' e e' → matches_in s e ≡ matches_in s' e'
   all-agree s s' h e e' a =
-      by_test (eqb (read_entry e).desk B)
+      by_test (eqb (entry_desk (read_entry e)) B)
       (λ p. own_agrees s s' h e e' a.may (inl (eqb-true _ B p)))
       (λ p. by_test (from_called s e) (a.agree (eqb-false _ B p)) (λ n. own_agrees s s' h e e' a.may (inr n)))
 

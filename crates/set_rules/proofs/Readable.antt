@@ -2,27 +2,27 @@
 -- Assumes nothing.
 use Prim.Native.Nat.{ℕ, zero, suc, ◌+◌, ◌-◌, ◌*◌, ◌^◌, ◌≤◌, ◌<◌}
 use mathlib.Core.List.{List, [], ◌∷◌, ◌++◌, map, map-append}
-use mathlib.Core.Bool.{Bool, true, false, ◌&&◌, cond, false≢true}
+use mathlib.Core.Bool.{Bool, true, false, ◌&&◌, cond}
 use mathlib.Core.Path.{◌≡◌, refl, sym, ap, ◌∙◌}
 use native.Mathlib.Omega.{arith}
 use native.Mathlib.Nat.{pow-le-pow_right}
 use lib.Dec.{eqb, leb}
 use lib.ListN.{length, length-take, take, drop, get_or, replicate}
-use borrow.Author.Tests.{leb-true, le-leb, eqb-false, not-false}
+use borrow.Author.Tests.{leb-true, le-leb, not-false}
+use Rattle.std.specs.Prelude.{Some, None, Ok, Err}
 use Rattle.laws.specs.Each.{Each}
 use Rattle.laws.proofs.Each.{◌▹◌, each_at, each_set, each_take, each_drop, each_append, each_same}
 use Rattle.laws.proofs.Tests.{both, by_test}
 use Rattle.numerals.specs.Digits.{all_digits, value_of, digits_in}
 use Rattle.fields.specs.Fields.{all_in, between}
-use Rattle.numerals.specs.declared.digits.Digits.TheVariants.{Value, Malformed}
 use Rattle.telegram.specs.Telegram.{num, in_range, read_telegram, telegram_of}
 use Rattle.telegram.specs.declared.message.Message.{Message}
 use Rattle.telegram.specs.declared.message.Message.TheVariants.{TimeRequest, OperationRequest}
-use Rattle.telegram.specs.declared.message.Reading.TheVariants.{Telegram}
+use Rattle.telegram.specs.Telegram.{under}
 use Rattle.numerals.proofs.Kept.{value_below}
 use Rattle.telegram.proofs.Kept.{reads-back}
 use Rattle.channel.specs.State.{only, first_desks, is_in, is_held}
-use Rattle.line_rules.specs.Rules.{happens, is_pressed}
+use Rattle.line_rules.specs.Rules.{happens}
 use Rattle.line_rules.specs.Notices.{Content, telegram, contact, content_for}
 use Rattle.channel.specs.declared.state.Channel.{Channel}
 use Rattle.channel.specs.declared.state.Event.{Event}
@@ -30,7 +30,8 @@ use Rattle.channel.specs.declared.state.Event.TheVariants.{Cut, PressOn, PressOf
 use Rattle.channel.specs.declared.state.Send.{Send}
 use Rattle.set_state.specs.State.{new_set, no_desk, no_channel, own_of, listeners_of, channels_of, place_in, channel_at, time_told, answered, with_link}
 use Rattle.frames.specs.Bytes.{byte, word}
-use Rattle.set_rules.specs.Entries.{read_entry, measured, bad, payload, payload_ok, size_ok, telegram_in, plan_in}
+use Rattle.set_state.specs.declared.state.Refusal.TheVariants.{Length, Version, Payload}
+use Rattle.set_rules.specs.Entries.{read_entry, mobile_in, on_byte, measured, payload, payload_ok, size_ok, telegram_in, plan_in, entry_kind, entry_desk, entry_channel, entry_on, entry_base, entry_number, entry_called, ReadEntry}
 use Rattle.set_rules.specs.Plan.{desk_ok, desks_ok, desks_in, channels_ok, channels_in, desk_count, desks_part, channel_count, channels_part, distinct, plan_ok, set_of}
 use Rattle.set_rules.specs.Refusals.{asked_in, number_in, called_place, refusal_of}
 use Rattle.set_rules.specs.Records.{Delivery, delivered, record_for}
@@ -44,7 +45,6 @@ use Rattle.set_rules.specs.Promises.{Readable, AlwaysOk}
 use Rattle.set_state.specs.declared.state.Link.{Link}
 use Rattle.set_state.specs.declared.state.Desk.{Desk}
 use Rattle.set_state.specs.declared.state.LineSet.{LineSet}
-use Rattle.set_state.specs.declared.state.Entry.{Entry}
 use Rattle.set_state.specs.declared.state.LinkRequest.TheVariants.{TellsTime, TellsState}
 use Rattle.set_state.specs.declared.state.Request.{Request}
 use Rattle.set_state.specs.declared.state.Request.TheVariants.{OfLink, OnChannel, AnswersRing, Foreign}
@@ -76,12 +76,12 @@ no_channels_lem n = each_same ChannelOk n no_channel no_channel_lem
 -- every telegram of a delivery reads, under its desk's code, as the message that the rule names
 abbrev pub Reads : List Desk → Delivery → Type 0
 Reads ds v =
-    (d : ℕ) (m : Message) → v.content d ≡ telegram m → read_telegram (telegram_of (get_or ds d no_desk).code m) ≡ Telegram (get_or ds d no_desk).code m
+    (d : ℕ) (m : Message) → v.content d ≡ telegram m → read_telegram (telegram_of (get_or ds d no_desk).code m) ≡ Ok (under (get_or ds d no_desk).code m)
 
 abbrev pub AllRead : List Desk → List Delivery → Type 0
 AllRead ds = Each (Reads ds)
 
-content-reads : (code : ℕ) (x : Content) → code ≤ 1023 → ContentOk x → (m : Message) → x ≡ telegram m → read_telegram (telegram_of code m) ≡ Telegram code m
+content-reads : (code : ℕ) (x : Content) → code ≤ 1023 → ContentOk x → (m : Message) → x ≡ telegram m → read_telegram (telegram_of code m) ≡ Ok (under code m)
 content-reads code (telegram m') h k m e =
     let q : m' ≡ m = cc in
     reads-back code m (simp (le-leb code 1023 h, ap in_range (sym q) ∙ k))
@@ -226,76 +226,76 @@ plan_ok_lem p h =
 
 -- ---- what an entry asks for
 
-pub record AskedOk (x : Entry) : Type 0 where
-  pub on-ok : x.on ≤ 1
-  pub base_ok : x.base ≤ 29
-  pub number_ok : NumberOk (number_in x.number)
+pub record AskedOk (x : ReadEntry) : Type 0 where
+  pub base_ok : entry_base x ≤ 29
+  pub number_ok : NumberOk (number_in (entry_number x))
 
 number_in_lem : (b : List ℕ) → length b ≤ 8 → NumberOk (number_in (digits_in b))
 number_in_lem b l = go (leb (length b) 9 && all_digits b) refl
   where
-    go : (t : Bool) → (leb (length b) 9 && all_digits b) ≡ t → NumberOk (number_in (cond t (Value (value_of b)) Malformed))
+    go : (t : Bool) → (leb (length b) 9 && all_digits b) ≡ t → NumberOk (number_in (cond t (Some (value_of b)) None))
     go true h = eight-below b l (both (leb (length b) 9) (all_digits b) h).1
     go false h = omega arith
-
-number-either : (t : Bool) (x y : Entry) → NumberOk (number_in x.number) → NumberOk (number_in y.number) → NumberOk (number_in (cond t x y).number)
-number-either true x y p q = p
-number-either false x y p q = q
 
 none-ok : NumberOk (num 0)
 none-ok = omega arith
 
-payload-number : (k : ℕ) (e : List ℕ) → NumberOk (number_in (payload k e).number)
-payload-number k e =
-    number-either (eqb k 1) _ _ none-ok
-    (number-either (eqb k 2) _ _ none-ok
-    (number-either (eqb k 3) _ _ none-ok
-    (number-either (eqb k 4) _ _ (number_in_lem (take 8 (drop 6 e)) (eight-taken (drop 6 e)))
-    (number-either (eqb k 5) _ _ none-ok
-    (number-either (eqb k 9) _ _ (number_in_lem (take 8 (drop 6 e)) (eight-taken (drop 6 e)))
-    (number-either (eqb k 10) _ _ none-ok none-ok))))))
+-- an entry without a number
+bare-ok : (x : ReadEntry) → entry_base x ≡ 0 → entry_number x ≡ None → AskedOk x
+bare-ok x b n = record { base_ok = omega (arith, b); number_ok = rw n none-ok }
+
+-- one with a base and a number
+numbered-ok : (x : ReadEntry) (e : List ℕ) (size on : Bool) → entry_base x ≡ byte e 5 → entry_number x ≡ mobile_in e → (size && on && leb (byte e 5) 29) ≡ true → AskedOk x
+numbered-ok x e size on b n h =
+    record { base_ok = rw b (leb-true _ 29 (both (size && on) (leb (byte e 5) 29) h).1); number_ok = rw n (number_in_lem (take 8 (drop 6 e)) (eight-taken (drop 6 e))) }
+
+payload-asked : (k : ℕ) (e : List ℕ) → payload_ok k e ≡ true → AskedOk (Ok (payload k e))
+unfolding entry_base entry_number
+payload-asked k e h =
+    by_test (eqb k 1) (λ a. rw a (bare-ok _ refl refl)) (λ a.
+    by_test (eqb k 2) (λ b. rw (a, b) (bare-ok _ refl refl)) (λ b.
+    by_test (eqb k 3) (λ c. rw (a, b, c) (bare-ok _ refl refl)) (λ c.
+    by_test (eqb k 4) (λ d. rw (a, b, c, d) (numbered-ok _ e (size_ok k (length e)) (leb (on_byte k e) 1) refl refl (rw d at h))) (λ d.
+    by_test (eqb k 5) (λ f. rw (a, b, c, d, f) (bare-ok _ refl refl)) (λ f.
+    by_test (eqb k 6) (λ g. rw (a, b, c, d, f, g) (bare-ok _ refl refl)) (λ g.
+    by_test (eqb k 7) (λ i. rw (a, b, c, d, f, g, i) (bare-ok _ refl refl)) (λ i.
+    by_test (eqb k 9) (λ j. rw (a, b, c, d, f, g, i, j) (numbered-ok _ e (size_ok k (length e)) (leb (on_byte k e) 1) refl refl (rw (d, j) at h))) (λ j.
+    by_test (eqb k 10) (λ l. rw (a, b, c, d, f, g, i, j, l) (bare-ok _ refl refl)) (λ l. rw (a, b, c, d, f, g, i, j, l) (bare-ok _ refl refl))))))))))
 
 pub asked-ok : (e : List ℕ) → AskedOk (read_entry e)
-unfolding read_entry
+unfolding read_entry entry_base entry_number
 asked-ok e = go (measured e) (eqb (byte e 2) 1) (payload_ok (byte e 3) e) refl
   where
-    bad-ok : (n : ℕ) → AskedOk (bad n)
-    bad-ok n = record { on-ok = omega arith; base_ok = omega arith; number_ok = none-ok }
-
-    go : (t u v : Bool) → payload_ok (byte e 3) e ≡ v → AskedOk (cond t (cond u (cond v (payload (byte e 3) e) (bad 3)) (bad 2)) (bad 1))
-    go true true true h =
-        let x = payload (byte e 3) e in
-        let b = both (size_ok (byte e 3) (length e) && leb x.on 1) (leb x.base 29) h in
-        let o = both (size_ok (byte e 3) (length e)) (leb x.on 1) b.0 in
-        record { on-ok = leb-true _ 1 o.1; base_ok = leb-true _ 29 b.1; number_ok = payload-number (byte e 3) e }
-    go true true false h = bad-ok 3
-    go true false v h = bad-ok 2
-    go false u v h = bad-ok 1
+    go : (t u v : Bool) → payload_ok (byte e 3) e ≡ v → AskedOk (cond t (cond u (cond v (Ok (payload (byte e 3) e)) (Err Payload)) (Err Version)) (Err Length))
+    go true true true h = payload-asked (byte e 3) e h
+    go true true false h = bare-ok (Err Payload) refl refl
+    go true false v h = bare-ok (Err Version) refl refl
+    go false u v h = bare-ok (Err Length) refl refl
 
 -- an accepted plan keeps the rules of a plan: row 6
-pub plan_kept : (s : LineSet) (e : List ℕ) (x : Entry) → refusal_of s e x ≡ 0 → x.kind ≡ 7 → plan_ok (plan_in e) ≡ true
+pub plan_kept : (s : LineSet) (e : List ℕ) (x : ReadEntry) → refusal_of s e x ≡ 0 → entry_kind x ≡ 7 → plan_ok (plan_in e) ≡ true
 plan_kept s e x z k = not-false (plan_ok (plan_in e)) (rw k at (no_row s e x z).row6-fails)
 
 -- what an accepted entry of a kind does fits the channel that it names
-abbrev pub press_of : LineSet → Entry → Bool → Event
-press_of s x t = cond t (PressOn x.desk (own_of s.desks x.desk)) PressOff
+abbrev pub press_of : LineSet → ReadEntry → Bool → Event
+press_of s x t = cond t (PressOn (entry_desk x) (own_of s.desks (entry_desk x))) PressOff
 
-abbrev pub ring_of : LineSet → Entry → Event
-ring_of s x = Ring (called_place s.desks s.size.desks x.called) x.base (number_in x.number)
+abbrev pub ring_of : LineSet → ReadEntry → Event
+ring_of s x = Ring (called_place s.desks s.size.desks (entry_called x)) (entry_base x) (number_in (entry_number x))
 
-pub record EntryFits (s : LineSet) (x : Entry) : Type 0 where
-  pub press-fits : x.kind ≡ 2 → Fits (press_of s x (eqb x.on 1)) (channel_at s x.channel)
-  pub cut_fits : x.kind ≡ 3 → Fits Cut (channel_at s x.channel)
-  pub on_fits : x.kind ≡ 4 → Fits (MobileOn x.base (number_in x.number)) (channel_at s x.channel)
-  pub off-fits : x.kind ≡ 5 → Fits MobileOff (channel_at s x.channel)
-  pub ring-fits : x.kind ≡ 9 → Fits (ring_of s x) (channel_at s x.channel)
-  pub cancel_fits : x.kind ≡ 10 → Fits Cancel (channel_at s x.channel)
+pub record EntryFits (s : LineSet) (x : ReadEntry) : Type 0 where
+  pub press-fits : entry_kind x ≡ 2 → Fits (press_of s x (entry_on x)) (channel_at s (entry_channel x))
+  pub cut_fits : entry_kind x ≡ 3 → Fits Cut (channel_at s (entry_channel x))
+  pub on_fits : entry_kind x ≡ 4 → Fits (MobileOn (entry_base x) (number_in (entry_number x))) (channel_at s (entry_channel x))
+  pub off-fits : entry_kind x ≡ 5 → Fits MobileOff (channel_at s (entry_channel x))
+  pub ring-fits : entry_kind x ≡ 9 → Fits (ring_of s x) (channel_at s (entry_channel x))
+  pub cancel_fits : entry_kind x ≡ 10 → Fits Cancel (channel_at s (entry_channel x))
 
-pub entry-fits : (s : LineSet) → SetOk s → (e : List ℕ) (x : Entry) → AskedOk x → refusal_of s e x ≡ 0 → EntryFits s x
+pub entry-fits : (s : LineSet) → SetOk s → (e : List ℕ) (x : ReadEntry) → AskedOk x → refusal_of s e x ≡ 0 → EntryFits s x
 entry-fits s ok e x a z =
     let f = row-finds s e x z in
     record {
-      press-fits = λ k. press k (eqb x.on 1) refl;
+      press-fits = λ k. press k (entry_on x) refl;
       cut_fits = λ k. ap is_held (f.cut-held k);
       on_fits = λ k. (a.base_ok, a.number_ok, f.mobile-silent k);
       off-fits = λ k. not-false _ (rw k at (no_row s e x z).row15-fails);
@@ -304,31 +304,29 @@ entry-fits s ok e x a z =
     }
   where
     -- a press off only while on: row 15
-    press : x.kind ≡ 2 → (t : Bool) → eqb x.on 1 ≡ t → Fits (press_of s x t) (channel_at s x.channel)
-    press k true o = (own-ok s ok x.desk, (row-finds s e x z).press-held k)
-    press k false o =
-        let off : x.on ≡ 0 = omega (arith, a.on-ok, eqb-false x.on 1 o) in
-        by_test (is_pressed (channel_at s x.channel)) (λ p. p) (λ p. absurd (false≢true (sym (rw (k, p, off) at (no_row s e x z).row15-fails))))
+    press : entry_kind x ≡ 2 → (t : Bool) → entry_on x ≡ t → Fits (press_of s x t) (channel_at s (entry_channel x))
+    press k true o = (own-ok s ok (entry_desk x), (row-finds s e x z).press-held k)
+    press k false o = not-false _ (rw (k, o) at (no_row s e x z).row15-fails)
 
 -- ---- every accepted entry, every entry, every feed
 
-accepted-ok : (s : LineSet) → SetOk s → (e : List ℕ) (x : Entry) → AskedOk x → refusal_of s e x ≡ 0 → EffectOk (accepted s e x)
+accepted-ok : (s : LineSet) → SetOk s → (e : List ℕ) (x : ReadEntry) → AskedOk x → refusal_of s e x ≡ 0 → EffectOk (accepted s e x)
 unfolding accepted_by accepted
 accepted-ok s ok e x a z =
-    let d = x.desk in
+    let d = (entry_desk x) in
     let r = read_telegram (telegram_in e) in
     let fits = entry-fits s ok e x a z in
-    pick_each EffectOk x.kind _ (ways (answers_in s d (asked_in d r)) s e x) (record { set-ok = ok; sent-ok = tt })
+    pick_each EffectOk (entry_kind x) _ (ways (answers_in s d (asked_in d r)) s e x) (record { set-ok = ok; sent-ok = tt })
     ((λ k. request-ok s ok d (asked_in d r) (asked_in_lem FitsAll d (λ c. tt) (λ c. tt) r))
-    ▹ (λ k. on-ok s ok x.channel _ (fits.press-fits k))
-    ▹ (λ k. on-ok s ok x.channel Cut (fits.cut_fits k))
-    ▹ (λ k. on-ok s ok x.channel _ (fits.on_fits k))
-    ▹ (λ k. on-ok s ok x.channel MobileOff (fits.off-fits k))
+    ▹ (λ k. on-ok s ok (entry_channel x) _ (fits.press-fits k))
+    ▹ (λ k. on-ok s ok (entry_channel x) Cut (fits.cut_fits k))
+    ▹ (λ k. on-ok s ok (entry_channel x) _ (fits.on_fits k))
+    ▹ (λ k. on-ok s ok (entry_channel x) MobileOff (fits.off-fits k))
     ▹ (λ k. tick-ok s ok)
     ▹ (λ k. plan_ok_lem (plan_in e) (plan_kept s e x z k))
     ▹ (λ k. handover_ok s ok)
-    ▹ (λ k. on-ok s ok x.channel _ (fits.ring-fits k))
-    ▹ (λ k. on-ok s ok x.channel Cancel (fits.cancel_fits k))
+    ▹ (λ k. on-ok s ok (entry_channel x) _ (fits.ring-fits k))
+    ▹ (λ k. on-ok s ok (entry_channel x) Cancel (fits.cancel_fits k))
     ▹ tt)
 
 new_ok : SetOk new_set
@@ -341,7 +339,7 @@ always_ok f = feed_keeps SetOk (λ s e z ok. (accepted-ok s ok e (read_entry e) 
 
 -- a record is read as the letter that was meant
 letter_read : (ds : List Desk) (d : ℕ) (x : Content)
-    → ((m : Message) → x ≡ telegram m → read_telegram (telegram_of (get_or ds d no_desk).code m) ≡ Telegram (get_or ds d no_desk).code m)
+    → ((m : Message) → x ≡ telegram m → read_telegram (telegram_of (get_or ds d no_desk).code m) ≡ Ok (under (get_or ds d no_desk).code m))
     → read_record (record_for ds d x) ≡ letter_for ds d x
 letter_read ds d (telegram m) h = rw (h m refl)
 letter_read ds d (contact k ch on) h = refl

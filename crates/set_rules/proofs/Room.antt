@@ -11,20 +11,17 @@ use lib.Count.{ones_in}
 use lib.Dec.{eqb, leb, ltb}
 use lib.ListN.{length, length-take, take, get_or, get_or-eq_default}
 use borrow.Author.Tests.{eqb-false, leb-false, ltb-false, ltb-true}
+use Rattle.std.specs.Prelude.{Option, None, Some}
 use Rattle.laws.specs.Each.{Each}
 use Rattle.laws.proofs.Each.{◌▹◌, each_at, each_both, each_map, each_take}
 use Rattle.laws.proofs.Table.{pick_each}
 use Rattle.laws.proofs.Tests.{both, by_test, either}
 use Rattle.telegram.specs.Telegram.{read_telegram}
 use Rattle.telegram.specs.declared.message.Number.{Number}
-use Rattle.telegram.specs.declared.message.Reading.{Reading}
+use Rattle.telegram.specs.Telegram.{Reading}
 use Rattle.channel.specs.State.{only, first_desks, is_in, is_held, held_by, is_present}
-use Rattle.channel.specs.declared.state.Party.{Party}
-use Rattle.channel.specs.declared.state.Party.TheVariants.{Nobody, By}
 use Rattle.channel.specs.declared.state.Call.{Call}
-use Rattle.channel.specs.declared.state.Call.TheVariants.{Closed, Open}
 use Rattle.channel.specs.declared.state.Arrival.{Arrival}
-use Rattle.channel.specs.declared.state.Arrival.TheVariants.{Absent, Present}
 use Rattle.channel.specs.declared.state.Channel.{Channel}
 use Rattle.channel.specs.declared.state.Event.{Event}
 use Rattle.channel.specs.declared.state.Event.TheVariants.{Capture, Release, Cut, PressOn, PressOff, MobileOn, MobileOff, Ring, Cancel, RingAnswer, Tick, EndTalk, EndCall}
@@ -39,11 +36,11 @@ use Rattle.frames.specs.Bytes.{byte}
 use Rattle.set_state.proofs.Kept.{listeners_exactly}
 use Rattle.set_state.specs.declared.state.Desk.{Desk}
 use Rattle.set_state.specs.declared.state.LineSet.{LineSet}
-use Rattle.set_state.specs.declared.state.Entry.{Entry}
+use Rattle.set_state.specs.Entry.{refusal_in}
 use Rattle.set_state.specs.declared.state.LinkRequest.TheVariants.{TellsTime, TellsState}
 use Rattle.set_state.specs.declared.state.Request.{Request}
 use Rattle.set_state.specs.declared.state.Request.TheVariants.{OfLink, OnChannel, AnswersRing, Foreign}
-use Rattle.set_rules.specs.Entries.{read_entry, measured, payload_ok, payload, telegram_in, plan_in}
+use Rattle.set_rules.specs.Entries.{read_entry, measured, payload_ok, telegram_in, plan_in, entry_kind, entry_desk, entry_channel, ReadEntry}
 use Rattle.set_rules.specs.Plan.{set_of}
 use Rattle.set_rules.specs.Refusals.{Lookup, Test, asked_in, first_of, table, refusal_of}
 use Rattle.set_rules.specs.Records.{delivered, space_of}
@@ -98,13 +95,13 @@ abbrev per_channel : ℕ
 per_channel = 718
 
 -- the sets kept in a channel have at most four desks, and while a mobile rings there is nothing else to end
-abbrev CallFew : Call → Type 0
-CallFew Closed = Unit {0}
-CallFew (Open k d m b s) = ones_in 8 m ≤ 4
+abbrev CallFew : Option Call → Type 0
+CallFew None = Unit {0}
+CallFew (Some k) = ones_in 8 k.recipients ≤ 4
 
-abbrev ArrivalFew : Arrival → Type 0
-ArrivalFew Absent = Unit {0}
-ArrivalFew (Present k m b n) = ones_in 8 m ≤ 4
+abbrev ArrivalFew : Option Arrival → Type 0
+ArrivalFew None = Unit {0}
+ArrivalFew (Some a) = ones_in 8 a.recipients ≤ 4
 
 record Few (c : Channel) : Type 0 where
   call-few : CallFew c.call
@@ -128,28 +125,28 @@ module _ (ds : List Desk) (ch : ℕ) where
   nothing-takes n = omega arith
 
   -- 550473: 51 bytes
-  call-takes : (t r : ℕ) (k : Call) → CallFew k → takes (call_sends t r k) ≤ 204
+  call-takes : (t r : ℕ) (k : Option Call) → CallFew k → takes (call_sends t r k) ≤ 204
   unfolding takes delivered space_of
-  call-takes t r Closed f = omega arith
-  call-takes t r (Open k d m b s) f = omega (arith, f)
+  call-takes t r None f = omega arith
+  call-takes t r (Some k) f = omega (arith, f)
 
   -- a contact of 8 bytes, and 550477: 38
-  press_off_takes : (p : Party) (k : Call) → takes (press_off_sends p k) ≤ 46
+  press_off_takes : (p : Option ℕ) (k : Option Call) → takes (press_off_sends p k) ≤ 46
   unfolding takes delivered space_of
-  press_off_takes Nobody k = omega arith
-  press_off_takes (By d) k = omega (arith, one_desk d)
+  press_off_takes None k = omega arith
+  press_off_takes (Some d) k = omega (arith, one_desk d)
 
   -- a contact, 550464 and 550477: 8, 37 and 38
-  mobile_off_takes : (a : Arrival) → ArrivalFew a → takes (mobile_off_sends a) ≤ 332
+  mobile_off_takes : (a : Option Arrival) → ArrivalFew a → takes (mobile_off_sends a) ≤ 332
   unfolding takes delivered space_of
-  mobile_off_takes Absent f = omega arith
-  mobile_off_takes (Present k m b n) f = omega (arith, f)
+  mobile_off_takes None f = omega arith
+  mobile_off_takes (Some a) f = omega (arith, f)
 
   -- a contact and 550480: 8 and 35
-  ring_off_takes : (k : Call) → CallFew k → takes (ring_off_sends k) ≤ 172
+  ring_off_takes : (k : Option Call) → CallFew k → takes (ring_off_sends k) ≤ 172
   unfolding takes delivered space_of
-  ring_off_takes Closed f = omega arith
-  ring_off_takes (Open k d m b s) f = omega (arith, f)
+  ring_off_takes None f = omega arith
+  ring_off_takes (Some k) f = omega (arith, f)
 
   module _ (e : ℕ) (listeners : ones_in 8 e ≤ 4) (c : Channel) (few : Few c) where
     -- 550651: 34 bytes
@@ -164,9 +161,9 @@ module _ (ds : List Desk) (ch : ℕ) where
     unfolding capture takes delivered space_of
     capture-takes d = go c.holder
       where
-        go : (h : Party) → takes (capture_at h e d c).sends ≤ 161
-        go Nobody = either (Within 161) (is_ringing c) _ _ (omega (arith, one_desk d)) (omega (arith, one_desk d, listeners))
-        go (By h) = omega (arith, one_desk d)
+        go : (h : Option ℕ) → takes (capture_at h e d c).sends ≤ 161
+        go None = either (Within 161) (is_ringing c) _ _ (omega (arith, one_desk d)) (omega (arith, one_desk d, listeners))
+        go (Some h) = omega (arith, one_desk d)
 
     cut-takes : takes (cut e c).sends ≤ 386
     unfolding cut
@@ -186,26 +183,26 @@ module _ (ds : List Desk) (ch : ℕ) where
     unfolding press_on takes delivered space_of
     press_on-takes d n = go c.call
       where
-        go : (k : Call) → takes (to (only d) (PressAnswer 1) ∷ opening_sends k (press_call d n) ++ (to (only d) (PressNotice (kind_of k) 1) ∷ [])) ≤ 97
-        go Closed = omega (arith, one_desk d)
-        go (Open k d' m b s) = omega (arith, one_desk d)
+        go : (k : Option Call) → takes (to (only d) (PressAnswer 1) ∷ opening_sends k (press_call d n) ++ (to (only d) (PressNotice (kind_of k) 1) ∷ [])) ≤ 97
+        go None = omega (arith, one_desk d)
+        go (Some k) = omega (arith, one_desk d)
 
     press_off-takes : takes (press_off c).sends ≤ 46
     unfolding press_off
     press_off-takes = press_off_takes c.presser c.call
 
-    mobile-few : (h : Party) → ones_in 8 (mobile_recipients h e) ≤ 4
-    mobile-few Nobody = listeners
-    mobile-few (By d) = omega (arith, one_desk d)
+    mobile-few : (h : Option ℕ) → ones_in 8 (mobile_recipients h e) ≤ 4
+    mobile-few None = listeners
+    mobile-few (Some d) = omega (arith, one_desk d)
 
     mobile_on-takes : (b : ℕ) (n : Number) → takes (mobile_on e b n c).sends ≤ 536
     unfolding mobile_on takes delivered space_of
     mobile_on-takes b n = go (mobile_recipients c.holder e) (mobile-few c.holder) c.call
       where
-        go : (m : ℕ) → ones_in 8 m ≤ 4 → (k : Call)
+        go : (m : ℕ) → ones_in 8 m ≤ 4 → (k : Option Call)
             → takes (to m (Incoming 1) ∷ to m (BaseArrival (kind_of k) b n 1) ∷ opening_sends k (mobile_call m b n) ++ (to m (CallerNotice (kind_of k) b n 1) ∷ [])) ≤ 536
-        go m f Closed = omega (arith, f)
-        go m f (Open k d m' b' s) = omega (arith, f)
+        go m f None = omega (arith, f)
+        go m f (Some k) = omega (arith, f)
 
     mobile_off-takes : takes (mobile_off c).sends ≤ 332
     unfolding mobile_off
@@ -345,21 +342,21 @@ module _ (s : LineSet) (shaped : Shaped s) (few : Each Few s.channels) (listener
   unfolding space_of
   plan_room p = omega (arith, ones_places 8 (first_desks (set_of p).size.desks))
 
-  accepted-room : (e : List ℕ) (x : Entry) → Room (accepted s e x)
+  accepted-room : (e : List ℕ) (x : ReadEntry) → Room (accepted s e x)
   unfolding accepted_by accepted space_of
   accepted-room e x =
-      let q = asked_in x.desk (read_telegram (telegram_in e)) in
-      pick_each Room x.kind _ (ways (answers_in s x.desk q) s e x) (omega arith)
-      ((λ k. request-room _ x.desk q)
-      ▹ (λ k. on_room x.channel _)
-      ▹ (λ k. on_room x.channel Cut)
-      ▹ (λ k. on_room x.channel _)
-      ▹ (λ k. on_room x.channel MobileOff)
+      let q = asked_in (entry_desk x) (read_telegram (telegram_in e)) in
+      pick_each Room (entry_kind x) _ (ways (answers_in s (entry_desk x) q) s e x) (omega arith)
+      ((λ k. request-room _ (entry_desk x) q)
+      ▹ (λ k. on_room (entry_channel x) _)
+      ▹ (λ k. on_room (entry_channel x) Cut)
+      ▹ (λ k. on_room (entry_channel x) _)
+      ▹ (λ k. on_room (entry_channel x) MobileOff)
       ▹ (λ k. tick-room)
       ▹ (λ k. plan_room (plan_in e))
       ▹ (λ k. handover_room)
-      ▹ (λ k. on_room x.channel _)
-      ▹ (λ k. on_room x.channel Cancel)
+      ▹ (λ k. on_room (entry_channel x) _)
+      ▹ (λ k. on_room (entry_channel x) Cancel)
       ▹ tt)
 
 -- ---- no other refusal is 16
@@ -371,7 +368,7 @@ other : (n : ℕ) → eqb n 16 ≡ false → Other n
 other n h = eqb-false n 16 h
 
 -- the number of the first row that holds
-first-other : (rows : List (ℕ × Test)) → Each (λ (row : ℕ × Test). Other row.0) rows → (v : Lookup) (e : List ℕ) (r : Reading) (x : Entry) → Other (first_of rows v e r x)
+first-other : (rows : List (ℕ × Test)) → Each (λ (row : ℕ × Test). Other row.0) rows → (v : Lookup) (e : List ℕ) (r : Reading) (x : ReadEntry) → Other (first_of rows v e r x)
 unfolding first_of
 first-other [] o v e r x = other 0 refl
 first-other (row ∷ rows) o v e r x = either Other (row.1 v e r x) row.0 (first_of rows v e r x) o.0 (first-other rows o.1 v e r x)
@@ -383,31 +380,20 @@ rows_other =
     ▹ o _ refl ▹ tt
 
 -- the number of bytes that do not read
-abbrev ReadsOther : Entry → Type 0
-ReadsOther x = Other x.refusal
-
-payload-other : (k : ℕ) (e : List ℕ) → ReadsOther (payload k e)
-payload-other k e =
-    let z = other 0 refl in
-    either ReadsOther (eqb k 1) _ _ z
-    (either ReadsOther (eqb k 2) _ _ z
-    (either ReadsOther (eqb k 3) _ _ z
-    (either ReadsOther (eqb k 4) _ _ z
-    (either ReadsOther (eqb k 5) _ _ z
-    (either ReadsOther (eqb k 9) _ _ z
-    (either ReadsOther (eqb k 10) _ _ z z))))))
+abbrev ReadsOther : ReadEntry → Type 0
+ReadsOther x = Other (refusal_in x)
 
 read-other : (e : List ℕ) → ReadsOther (read_entry e)
 unfolding read_entry
 read-other e =
     either ReadsOther (measured e) _ _
-    (either ReadsOther (eqb (byte e 2) 1) _ _ (either ReadsOther (payload_ok (byte e 3) e) _ _ (payload-other (byte e 3) e) (other 3 refl)) (other 2 refl))
+    (either ReadsOther (eqb (byte e 2) 1) _ _ (either ReadsOther (payload_ok (byte e 3) e) _ _ (other 0 refl) (other 3 refl)) (other 2 refl))
     (other 1 refl)
 
 refusal-other : (s : LineSet) (e : List ℕ) → Other (refusal_of s e (read_entry e))
 unfolding refusal_of
 refusal-other s e =
-    either Other (eqb (read_entry e).refusal 0) _ _
+    either Other (eqb (refusal_in (read_entry e)) 0) _ _
     (first-other table rows_other _ e (read_telegram (telegram_in e)) (read_entry e))
     (read-other e)
 
@@ -434,13 +420,13 @@ among-few s shaped c k = record { call-few = call c.call k.1.call-told; arrival-
     told : (m : ℕ) → AllListen (around_of s Any) c m → ones_in 8 m ≤ 4
     told m l = le_trans (ones_most 8 s.size.desks m (λ d i. (l d i).0.0)) shaped.desks-most
 
-    call : (k : Call) → CallTold (around_of s Any) c k → CallFew k
-    call Closed t = tt
-    call (Open k d m b n) t = told m t.listen
+    call : (k : Option Call) → CallTold (around_of s Any) c k → CallFew k
+    call None t = tt
+    call (Some k) t = told k.recipients t.listen
 
-    arrival : (x : Arrival) → ArrivalTold (around_of s Any) c x → ArrivalFew x
-    arrival Absent t = tt
-    arrival (Present k m b n) t = told m t.listen
+    arrival : (x : Option Arrival) → ArrivalTold (around_of s Any) c x → ArrivalFew x
+    arrival None t = tt
+    arrival (Some a) t = told a.recipients t.listen
 
 listeners_few : (s : LineSet) → Shaped s → (c : Channel) → ones_in 8 (listeners_of s.desks s.size.desks c) ≤ 4
 listeners_few s shaped c =
@@ -451,7 +437,7 @@ listeners_few s shaped c =
     there s.desks s.size.desks d (both _ (is_in d c.entitled) (sym (listeners_exactly s.desks s.size.desks c d short) ∙ i)).0))
     shaped.desks-most
 
-room_after : (f : List Item) (e : List ℕ) (x : Entry) → space_of (accepted (after new_set f) e x).sent ≤ room_enough
+room_after : (f : List Item) (e : List ℕ) (x : ReadEntry) → space_of (accepted (after new_set f) e x).sent ≤ room_enough
 room_after f e x =
     let s = after new_set f in
     let shaped = always_shaped f in
@@ -467,7 +453,7 @@ roomy f i l z =
     s : LineSet
     s = after new_set f
 
-    x : Entry
+    x : ReadEntry
     x = read_entry i.entry
 
     go : (t : Bool) → eqb (refusal_of s i.entry x) 0 ≡ t → (u : Bool) → leb (space_of (accepted s i.entry x).sent) (length i.buffer) ≡ u → ⊥

@@ -2,43 +2,40 @@
 -- Assumes nothing.
 use Prim.Native.Nat.{ℕ, suc}
 use mathlib.Core.List.{List, [], ◌∷◌}
-use mathlib.Core.Bool.{Bool, true, false, not, cond, false≢true, true≢false}
+use mathlib.Core.Bool.{Bool, true, false, not, false≢true, true≢false}
 use mathlib.Core.Path.{◌≡◌, refl, sym, ap, ◌∙◌}
 use native.Mathlib.Omega.{arith}
 use lib.Dec.{eqb}
 use borrow.Author.Tests.{eq-eqb, eqb-true, not-true, not-false}
+use Rattle.std.specs.Prelude.{Option, None, Some}
 use Rattle.laws.specs.Each.{Each}
 use Rattle.laws.proofs.Each.{◌▹◌}
 use Rattle.laws.proofs.Tests.{both, neither}
 use Rattle.telegram.specs.Telegram.{read_telegram}
-use Rattle.telegram.specs.declared.message.Reading.{Reading}
+use Rattle.telegram.specs.Telegram.{Reading}
 use Rattle.channel.specs.State.{is_in, is_held, held_by, is_present, is_open}
-use Rattle.channel.specs.declared.state.Party.{Party}
-use Rattle.channel.specs.declared.state.Party.TheVariants.{Nobody, By}
 use Rattle.channel.specs.declared.state.Call.{Call}
-use Rattle.channel.specs.declared.state.Call.TheVariants.{Closed, Open}
 use Rattle.channel.specs.declared.state.Arrival.{Arrival}
-use Rattle.channel.specs.declared.state.Arrival.TheVariants.{Absent, Present}
 use Rattle.channel.specs.declared.state.Channel.{Channel}
-use Rattle.line_rules.specs.Rules.{is_pressed, is_ringing}
+use Rattle.line_rules.specs.Rules.{is_ringing}
 use Rattle.line_rules.specs.Invariant.{Idle}
 use Rattle.set_state.specs.State.{channel_at, listeners_of}
-use Rattle.set_rules.specs.Entries.{telegram_in}
+use Rattle.set_rules.specs.Entries.{telegram_in, entry_kind, entry_desk, entry_channel, entry_called, ReadEntry}
 use Rattle.set_rules.specs.Refusals.{Lookup, lookup_in, Test, asked_in, named_by, is_idle, called_place, row4, row5, row6, row7, row11, row12, row13, row14, row15, row17, first_of, refusal_of, table}
 use Rattle.set_rules.specs.Promises.{Finds}
 use Rattle.set_state.specs.declared.state.LineSet.{LineSet}
-use Rattle.set_state.specs.declared.state.Entry.{Entry}
+use Rattle.set_state.specs.Entry.{refusal_in}
 
 -- a row's number is none of an accepted entry
 abbrev Refuses : ℕ × Test → Type 0
 Refuses row = row.0 ≡ 0 → ⊥
 
-module _ (s : LineSet) (e : List ℕ) (x : Entry) where
+module _ (s : LineSet) (e : List ℕ) (x : ReadEntry) where
   abbrev r : Reading
   r = read_telegram (telegram_in e)
 
   abbrev v : Lookup
-  v = lookup_in s (named_by (asked_in x.desk r) x)
+  v = lookup_in s (named_by (asked_in (entry_desk x) r) x)
 
   abbrev Fails : ℕ × Test → Type 0
   Fails row = row.1 v e r x ≡ false
@@ -59,9 +56,9 @@ module _ (s : LineSet) (e : List ℕ) (x : Entry) where
 
   rows_fail : refusal_of s e x ≡ 0 → Each Fails table
   unfolding refusal_of
-  rows_fail z = none-holds table numbered (go (eqb x.refusal 0) refl)
+  rows_fail z = none-holds table numbered (go (eqb (refusal_in x) 0) refl)
     where
-      go : (t : Bool) → eqb x.refusal 0 ≡ t → first_of table v e r x ≡ 0
+      go : (t : Bool) → eqb (refusal_in x) 0 ≡ t → first_of table v e r x ≡ 0
       go true k = rw k at z
       go false k = absurd (false≢true (sym k ∙ eq-eqb _ 0 (rw k at z)))
 
@@ -102,21 +99,21 @@ module _ (s : LineSet) (e : List ℕ) (x : Entry) where
 
 -- ---- what an accepted entry finds: rows 14, 15 and 17
 
-pub held_by_lem : (d : ℕ) (h : Party) → held_by d h ≡ true → h ≡ By d
-held_by_lem d Nobody e = absurd (false≢true e)
-held_by_lem d (By h) e = ap By (eqb-true h d e)
+pub held_by_lem : (d : ℕ) (h : Option ℕ) → held_by d h ≡ true → h ≡ Some d
+held_by_lem d None e = absurd (false≢true e)
+held_by_lem d (Some h) e = ap Some (eqb-true h d e)
 
-nobody : (h : Party) → is_held h ≡ false → h ≡ Nobody
-nobody Nobody e = refl
-nobody (By d) e = absurd (true≢false e)
+nobody : (h : Option ℕ) → is_held h ≡ false → h ≡ None
+nobody None e = refl
+nobody (Some d) e = absurd (true≢false e)
 
-closed : (k : Call) → is_open k ≡ false → k ≡ Closed
-closed Closed e = refl
-closed (Open k d m b s) e = absurd (true≢false e)
+closed : (k : Option Call) → is_open k ≡ false → k ≡ None
+closed None e = refl
+closed (Some k) e = absurd (true≢false e)
 
-absent : (a : Arrival) → is_present a ≡ false → a ≡ Absent
-absent Absent h = refl
-absent (Present k m b n) h = absurd (true≢false h)
+absent : (a : Option Arrival) → is_present a ≡ false → a ≡ None
+absent None h = refl
+absent (Some a) h = absurd (true≢false h)
 
 idle : (c : Channel) → is_idle c ≡ true → Idle c
 idle c h =
@@ -130,22 +127,18 @@ idle c h =
       silent = not-true _ ring.1;
     }
 
-not_on : (t : Bool) → eqb 1 (cond t 1 0) ≡ false → t ≡ false
-not_on true h = absurd (true≢false h)
-not_on false h = refl
-
-pub row-finds : (s : LineSet) (e : List ℕ) (x : Entry) → refusal_of s e x ≡ 0 → Finds s x
+pub row-finds : (s : LineSet) (e : List ℕ) (x : ReadEntry) → refusal_of s e x ≡ 0 → Finds s x
 row-finds s e x z =
-    let c = channel_at s x.channel in
+    let c = channel_at s (entry_channel x) in
     let r = no_row s e x z in
-    let held : not (held_by x.desk c.holder) ≡ false → c.holder ≡ By x.desk = λ h. held_by_lem x.desk c.holder (not-false _ h) in
-    let new : x.kind ≡ 4 → (is_present c.arrival ≡ false) × (is_ringing c ≡ false) = λ k. neither _ _ (rw k at r.row15-fails) in
-    let heard : Bool = is_in (called_place s.desks s.size.desks x.called) (listeners_of s.desks s.size.desks c) in
-    let called : x.kind ≡ 9 → (heard ≡ true) × (is_idle c ≡ true) = λ k. both _ _ (not-false _ (rw k at r.row17-fails)) in
+    let held : not (held_by (entry_desk x) c.holder) ≡ false → c.holder ≡ Some (entry_desk x) = λ h. held_by_lem (entry_desk x) c.holder (not-false _ h) in
+    let new : entry_kind x ≡ 4 → (is_present c.arrival ≡ false) × (is_ringing c ≡ false) = λ k. neither _ _ (rw k at r.row15-fails) in
+    let heard : Bool = is_in (called_place s.desks s.size.desks (entry_called x)) (listeners_of s.desks s.size.desks c) in
+    let called : entry_kind x ≡ 9 → (heard ≡ true) × (is_idle c ≡ true) = λ k. both _ _ (not-false _ (rw k at r.row17-fails)) in
     record {
       press-held = λ k. held (rw k at r.row14-fails);
       cut-held = λ k. held (rw k at r.row14-fails);
-      press_new = λ k o. not_on (is_pressed c) (rw (k, o) at r.row15-fails);
+      press_new = λ k o. rw (k, o) at r.row15-fails;
       mobile_new = λ k. absent c.arrival (new k).0;
       mobile-silent = λ k. (new k).1;
       call-idle = λ k. idle c (called k).1;

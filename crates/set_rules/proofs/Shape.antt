@@ -26,11 +26,10 @@ use Rattle.set_state.specs.State.{new_set, no_desk, no_channel, listeners_of, ch
 use Rattle.frames.specs.Bytes.{byte}
 use Rattle.set_state.specs.declared.state.Link.{Link}
 use Rattle.set_state.specs.declared.state.LineSet.{LineSet}
-use Rattle.set_state.specs.declared.state.Entry.{Entry}
 use Rattle.set_state.specs.declared.state.LinkRequest.TheVariants.{TellsTime, TellsState}
 use Rattle.set_state.specs.declared.state.Request.{Request}
 use Rattle.set_state.specs.declared.state.Request.TheVariants.{OfLink, OnChannel, AnswersRing, Foreign}
-use Rattle.set_rules.specs.Entries.{read_entry, telegram_in, plan_in}
+use Rattle.set_rules.specs.Entries.{read_entry, telegram_in, plan_in, entry_kind, entry_desk, entry_channel, ReadEntry}
 use Rattle.set_rules.specs.Plan.{desks_in, channels_ok, channels_in, desk_count, desks_part, channel_count, channels_part, plan_ok, filled, set_of}
 use Rattle.set_rules.specs.Refusals.{lookup_in, asked_in, channel_in, named, may_use, refusal_of}
 use Rattle.set_rules.specs.SetRules.{Effect, moved_in, on_channel, ticked, on_tick, on_handover, answers_in, on_request, ways, accepted_by, accepted}
@@ -245,16 +244,16 @@ new_shaped = record {
 
 -- ---- every accepted entry, every entry, every feed
 
-module _ (s : LineSet) (e : List ℕ) (x : Entry) (z : refusal_of s e x ≡ 0) where
+module _ (s : LineSet) (e : List ℕ) (x : ReadEntry) (z : refusal_of s e x ≡ 0) where
   -- the desk of a telegram is in the plan, and so is a channel that it names: rows 7 and 12
-  told_shaped : Shaped s → (t : Bool) → x.kind ≡ 1 → Shaped (on_request t s x.desk (asked_in x.desk (read_telegram (telegram_in e)))).after
+  told_shaped : Shaped s → (t : Bool) → entry_kind x ≡ 1 → Shaped (on_request t s (entry_desk x) (asked_in (entry_desk x) (read_telegram (telegram_in e)))).after
   told_shaped h t k =
       let r = no_row s e x z in
-      request_shaped s h t x.desk (asked_in x.desk (read_telegram (telegram_in e))) (ltb-true _ _ (not-false _ (rw k at r.row7-fails))) (not-false _ (rw k at r.row12-fails))
+      request_shaped s h t (entry_desk x) (asked_in (entry_desk x) (read_telegram (telegram_in e))) (ltb-true _ _ (not-false _ (rw k at r.row7-fails))) (not-false _ (rw k at r.row12-fails))
 
   -- so is the channel of a press, a cut or a mobile: row 12
-  pub found : (k : ℕ) → eqb k 1 ≡ false → ((eqb k 2 || eqb k 3) || (eqb k 4 || eqb k 5 || eqb k 9 || eqb k 10)) ≡ true → x.kind ≡ k → has_channel s x.channel ≡ true
-  found k a b q = go (eqb k 2 || eqb k 3) (eqb k 4 || eqb k 5 || eqb k 9 || eqb k 10) (has_channel s x.channel) _ b (rw (q, a) at (no_row s e x z).row12-fails)
+  pub found : (k : ℕ) → eqb k 1 ≡ false → ((eqb k 2 || eqb k 3) || (eqb k 4 || eqb k 5 || eqb k 9 || eqb k 10)) ≡ true → entry_kind x ≡ k → has_channel s (entry_channel x) ≡ true
+  found k a b q = go (eqb k 2 || eqb k 3) (eqb k 4 || eqb k 5 || eqb k 9 || eqb k 10) (has_channel s (entry_channel x)) _ b (rw (q, a) at (no_row s e x z).row12-fails)
     where
       go : (t u f m : Bool) → (t || u) ≡ true → cond t (not (f && m)) (cond u (not f) false) ≡ false → f ≡ true
       go true u f m o r = (both f m (not-false (f && m) r)).0
@@ -264,18 +263,18 @@ module _ (s : LineSet) (e : List ℕ) (x : Entry) (z : refusal_of s e x ≡ 0) w
   accepted_shaped : Shaped s → Shaped (accepted s e x).after
   unfolding accepted_by accepted on_handover
   accepted_shaped h =
-      let t = answers_in s x.desk (asked_in x.desk (read_telegram (telegram_in e))) in
-      pick_each (λ (f : Effect). Shaped f.after) x.kind _ (ways t s e x) h
+      let t = answers_in s (entry_desk x) (asked_in (entry_desk x) (read_telegram (telegram_in e))) in
+      pick_each (λ (f : Effect). Shaped f.after) (entry_kind x) _ (ways t s e x) h
       (told_shaped h t
-      ▹ (λ k. on_shaped s h x.channel _ (found 2 refl refl k))
-      ▹ (λ k. on_shaped s h x.channel Cut (found 3 refl refl k))
-      ▹ (λ k. on_shaped s h x.channel _ (found 4 refl refl k))
-      ▹ (λ k. on_shaped s h x.channel MobileOff (found 5 refl refl k))
+      ▹ (λ k. on_shaped s h (entry_channel x) _ (found 2 refl refl k))
+      ▹ (λ k. on_shaped s h (entry_channel x) Cut (found 3 refl refl k))
+      ▹ (λ k. on_shaped s h (entry_channel x) _ (found 4 refl refl k))
+      ▹ (λ k. on_shaped s h (entry_channel x) MobileOff (found 5 refl refl k))
       ▹ (λ k. tick_shaped s h)
       ▹ (λ k. plan_shaped (plan_in e) (plan_kept s e x z k))
       ▹ (λ k. new_shaped)
-      ▹ (λ k. on_shaped s h x.channel _ (found 9 refl refl k))
-      ▹ (λ k. on_shaped s h x.channel Cancel (found 10 refl refl k))
+      ▹ (λ k. on_shaped s h (entry_channel x) _ (found 9 refl refl k))
+      ▹ (λ k. on_shaped s h (entry_channel x) Cancel (found 10 refl refl k))
       ▹ tt)
 
 pub always_shaped : AlwaysShaped

@@ -7,19 +7,17 @@ use mathlib.Core.Path.{◌≡◌, refl, sym, ap, ◌∙◌}
 use native.Mathlib.Omega.{arith}
 use lib.Dec.{eqb, ltb}
 use lib.ListN.{length, replicate, get_or}
-use borrow.Author.Tests.{ltb-false}
+use borrow.Author.Tests.{ltb-false, not-false}
+use Rattle.std.specs.Prelude.{Option, None, Some}
 use Rattle.laws.proofs.Tests.{by_test}
 use Rattle.channel.specs.State.{is_in, is_held, is_open}
 use Rattle.line_rules.specs.Rules.{happens, press_off, tick, tick_idle, tick_quiet, tick_release, is_pressed, is_ringing, end_of, freed_sends}
 use Rattle.line_rules.specs.Promises.{quietly}
-use Rattle.channel.specs.declared.state.Party.TheVariants.{By}
 use Rattle.channel.specs.declared.state.Call.{Call}
-use Rattle.channel.specs.declared.state.Call.TheVariants.{Closed, Open}
-use Rattle.channel.specs.declared.state.Arrival.TheVariants.{Absent}
 use Rattle.channel.specs.declared.state.Channel.{Channel}
 use Rattle.channel.specs.declared.state.Send.{Send}
 use Rattle.set_state.specs.State.{new_set, no_channel, place_of, has_channel, channel_at, listeners_of}
-use Rattle.set_rules.specs.Entries.{read_entry}
+use Rattle.set_rules.specs.Entries.{read_entry, entry_kind, entry_desk, entry_channel, entry_on, ReadEntry, entry_base, entry_number, entry_called}
 use Rattle.laws.specs.Each.{Each}
 use Rattle.laws.specs.Table.{pick}
 use Rattle.set_rules.specs.Refusals.{refusal_of}
@@ -32,17 +30,15 @@ use Rattle.set_rules.proofs.Answers.{accepted-after, accepted-done}
 use Rattle.set_rules.proofs.Rows.{no_row}
 use Rattle.set_rules.proofs.Readable.{always_ok}
 use Rattle.line_rules.specs.Invariant.{ChannelOk}
-use Rattle.telegram.specs.declared.message.Number.{Number}
 use Rattle.set_state.specs.declared.state.Desk.{Desk}
 use Rattle.set_state.specs.declared.state.LineSet.{LineSet}
-use Rattle.set_state.specs.declared.state.Entry.{Entry}
 
 -- ---- an accepted tick
 
 tick-done : (s : LineSet) (b : List ℕ) → (step_by s (record { entry = entry_of 6 []; buffer = b })).refusal ≡ 0
     → ((step_by s (record { entry = entry_of 6 []; buffer = b })).bytes ≡ records_of s.desks (on_tick s).sent)
     × ((step_by s (record { entry = entry_of 6 []; buffer = b })).after ≡ (on_tick s).after)
-unfolding pick accepted_by accepted read_entry on_tick
+unfolding pick accepted_by accepted read_entry on_tick entry_kind entry_desk entry_channel entry_on entry_base entry_number entry_called
 tick-done s b z = let k = accepted-done s (record { entry = entry_of 6 []; buffer = b }) z in (k.bytes_are, k.after_is)
 
 -- what a tick of a set writes, and how it leaves the first channel
@@ -75,31 +71,31 @@ in_words v w =
     replicate 9 (ticked_by [] true true)
     ++ (ticked_by v false true ∷ replicate 119 (ticked_by [] false true) ++ (ticked_by w false false ∷ []))
 
-ticking : (code entitled d n kind dir m base : ℕ) (source : Number) (rest : List Channel) (ds : List Desk)
-    → let k : Call = Open kind dir m base source in
+ticking : (code entitled d n : ℕ) (call : Call) (rest : List Channel) (ds : List Desk)
+    → let k = Some call in
     by_ticks 130 (set_with (quietly code entitled d k) rest ds n)
     ≡ in_words (records_of ds (delivered ds code (end_of 3 k) ++ []))
     (records_of ds (delivered ds code (freed_sends (listeners_of ds n (quietly code entitled d k)) (quietly code entitled d k)) ++ []))
 unfolding quietly by_ticks tick_in on_tick sends_of delivered records_of happens tick tick_idle tick_quiet tick_release
-ticking code entitled d n kind dir m base source rest ds = refl
+ticking code entitled d n call rest ds = refl
 
-ticked_open : (code entitled d n : ℕ) (k : Call) → is_open k ≡ true → (rest : List Channel) (ds : List Desk)
+ticked_open : (code entitled d n : ℕ) (k : Option Call) → is_open k ≡ true → (rest : List Channel) (ds : List Desk)
     → by_ticks 130 (set_with (quietly code entitled d k) rest ds n)
     ≡ in_words (records_of ds (delivered ds code (end_of 3 k)))
     (records_of ds (delivered ds code (freed_sends (listeners_of ds n (quietly code entitled d k)) (quietly code entitled d k))))
-ticked_open code entitled d n Closed o rest ds = absurd (false≢true o)
-ticked_open code entitled d n (Open kind dir m base source) o rest ds =
-    let q = quietly code entitled d (Open kind dir m base source) in
-    ticking code entitled d n kind dir m base source rest ds
-    ∙ rw (append-nil (delivered ds code (end_of 3 (Open kind dir m base source))), append-nil (delivered ds code (freed_sends (listeners_of ds n q) q)))
+ticked_open code entitled d n None o rest ds = absurd (false≢true o)
+ticked_open code entitled d n (Some k) o rest ds =
+    let q = quietly code entitled d (Some k) in
+    ticking code entitled d n k rest ds
+    ∙ rw (append-nil (delivered ds code (end_of 3 (Some k))), append-nil (delivered ds code (freed_sends (listeners_of ds n q) q)))
 
 -- ---- an accepted press off on the one channel
 
 -- rows 4 and 12 of an accepted press: there is a plan, and the channel is in it
-pub press-planned : (s : LineSet) (e : List ℕ) (x : Entry) → x.kind ≡ 2 → refusal_of s e x ≡ 0 → (s.planned ≡ true) × (has_channel s x.channel ≡ true)
+pub press-planned : (s : LineSet) (e : List ℕ) (x : ReadEntry) → entry_kind x ≡ 2 → refusal_of s e x ≡ 0 → (s.planned ≡ true) × (has_channel s (entry_channel x) ≡ true)
 press-planned s e x k z =
     let t = no_row s e x z in
-    (planned s.planned (rw k at t.row4-fails), has (has_channel s x.channel) (is_in x.desk (channel_at s x.channel).entitled) (rw k at t.row12-fails))
+    (planned s.planned (rw k at t.row4-fails), has (has_channel s (entry_channel x)) (is_in (entry_desk x) (channel_at s (entry_channel x)).entitled) (rw k at t.row12-fails))
   where
     planned : (t : Bool) → (not t && true) ≡ false → t ≡ true
     planned true h = refl
@@ -118,25 +114,24 @@ one_place c rest ds n ch h = go (eqb c.code ch) h
     go true h = refl
     go false h = absurd (false≢true h)
 
-let_go : (c : Channel) (rest : List Channel) (ds : List Desk) (n d : ℕ) (e : List ℕ) (x : Entry) → c.holder ≡ By d → c.arrival ≡ Absent → c.ring ≡ 0
-    → x.kind ≡ 2 → x.on ≡ 0 → eqb c.code x.channel ≡ true
+let_go : (c : Channel) (rest : List Channel) (ds : List Desk) (n d : ℕ) (e : List ℕ) (x : ReadEntry) → c.holder ≡ Some d → c.arrival ≡ None → c.ring ≡ 0
+    → entry_kind x ≡ 2 → entry_on x ≡ false → eqb c.code (entry_channel x) ≡ true
     → (accepted (set_with c rest ds n) e x).after ≡ set_with (quietly c.code c.entitled d c.call) rest ds n
 unfolding pick accepted_by accepted on_channel place_of happens press_off quietly
 let_go c rest ds n d e x h a q k o m = rw (k, o, m, h, a, q)
 
 -- the channel was pressed: row 15
-was_pressed : (c : Channel) (rest : List Channel) (ds : List Desk) (n : ℕ) (e : List ℕ) (x : Entry) → x.kind ≡ 2 → x.on ≡ 0
-    → eqb c.code x.channel ≡ true → refusal_of (set_with c rest ds n) e x ≡ 0 → is_pressed c ≡ true
+was_pressed : (c : Channel) (rest : List Channel) (ds : List Desk) (n : ℕ) (e : List ℕ) (x : ReadEntry) → entry_kind x ≡ 2 → entry_on x ≡ false
+    → eqb c.code (entry_channel x) ≡ true → refusal_of (set_with c rest ds n) e x ≡ 0 → is_pressed c ≡ true
 unfolding place_of
 was_pressed c rest ds n e x k o m z =
-    let off : eqb 0 (cond (is_pressed c) 1 0) ≡ false = rw (k, o, m) at (no_row (set_with c rest ds n) e x z).row15-fails in
-    by_test (is_pressed c) (λ p. p) (λ p. absurd (false≢true (sym (rw p at off))))
+    let r : not (is_pressed c) ≡ false = rw (k, o, m) at (no_row (set_with c rest ds n) e x z).row15-fails in not-false _ r
 
 -- so a call was open (`Timed`), and no mobile rings where a desk holds
 first-ok : (f : List Item) (c : Channel) (rest : List Channel) → (after new_set f).channels ≡ c ∷ rest → ChannelOk c
 first-ok f c rest cs = let ok : Each ChannelOk (c ∷ rest) = rw cs at (always_ok f).channels-ok in ok.0
 
-held-silent : (c : Channel) (d : ℕ) → ChannelOk c → c.holder ≡ By d → c.ring ≡ 0
+held-silent : (c : Channel) (d : ℕ) → ChannelOk c → c.holder ≡ Some d → c.ring ≡ 0
 held-silent c d ok h =
     by_test (is_ringing c)
     (λ r. absurd (false≢true (ap is_held (sym (ok.rung r).nobody-holds ∙ h))))
@@ -151,7 +146,7 @@ ends_at f c rest d one cs h a i k o z bs l all =
     let p = press-planned s i.entry x k r.0 in
     let s' = set_with c rest s.desks s.size.desks in
     let e : s ≡ s' = λ j. record { channels = cs j; desks = s.desks; size = record { desks = s.size.desks; channels = one j }; planned = p.0 j } in
-    let m = one_place c rest s.desks s.size.desks x.channel (ap (λ (t : LineSet). has_channel t x.channel) (sym e) ∙ p.1) in
+    let m = one_place c rest s.desks s.size.desks (entry_channel x) (ap (λ (t : LineSet). has_channel t (entry_channel x)) (sym e) ∙ p.1) in
     let pressed = was_pressed c rest s.desks s.size.desks i.entry x k o m (ap (λ (t : LineSet). refusal_of t i.entry x) (sym e) ∙ r.0) in
     let ok = first-ok f c rest cs in
     let q = quietly c.code c.entitled d c.call in

@@ -32,11 +32,10 @@ use Rattle.set_state.proofs.Kept.{listeners_exactly}
 use Rattle.set_state.specs.declared.state.Link.{Link}
 use Rattle.set_state.specs.declared.state.Desk.{Desk}
 use Rattle.set_state.specs.declared.state.LineSet.{LineSet}
-use Rattle.set_state.specs.declared.state.Entry.{Entry}
 use Rattle.set_state.specs.declared.state.LinkRequest.TheVariants.{TellsTime, TellsState}
 use Rattle.set_state.specs.declared.state.Request.{Request}
 use Rattle.set_state.specs.declared.state.Request.TheVariants.{OfLink, OnChannel, AnswersRing, Foreign}
-use Rattle.set_rules.specs.Entries.{read_entry, telegram_in, plan_in}
+use Rattle.set_rules.specs.Entries.{read_entry, telegram_in, plan_in, entry_kind, entry_desk, entry_channel, entry_on, entry_number, entry_called, ReadEntry}
 use Rattle.set_rules.specs.Plan.{desk_count, channel_count, channels_part, channels_in, plan_ok, set_of}
 use Rattle.set_rules.specs.Refusals.{asked_in, phase_of, named, may_use, lookup_in, channel_in, number_in, called_place, refusal_of}
 use Rattle.set_rules.specs.Records.{Delivery, delivered}
@@ -194,16 +193,16 @@ module _ (M : Number → Type 0) (s : LineSet) (ok : SetOk s) (shaped : Shaped s
 
   -- ---- every accepted entry
 
-  module _ (e : List ℕ) (x : Entry) (a : AskedOk x) (brings : BringsNumber x → M (number_in x.number)) (z : refusal_of s e x ≡ 0) where
+  module _ (e : List ℕ) (x : ReadEntry) (a : AskedOk x) (brings : BringsNumber x → M (number_in (entry_number x))) (z : refusal_of s e x ≡ 0) where
     rows : NoRow s e x
     rows = no_row s e x z
 
     abbrev asked : Request
-    asked = asked_in x.desk (read_telegram (telegram_in e))
+    asked = asked_in (entry_desk x) (read_telegram (telegram_in e))
 
-    telegram-tells : x.kind ≡ 1 → Tells M s (on_request (answers_in s x.desk asked) s x.desk asked)
+    telegram-tells : entry_kind x ≡ 1 → Tells M s (on_request (answers_in s (entry_desk x) asked) s (entry_desk x) asked)
     telegram-tells k =
-        let d = x.desk in
+        let d = (entry_desk x) in
         let r = read_telegram (telegram_in e) in
         request-tells d asked (asked_in_lem (FitsBy d) d (λ c l. (tt, l)) (λ c l. (tt, l)) r)
         (ltb-true _ _ (not-false _ (rw k at rows.row7-fails)))
@@ -216,22 +215,22 @@ module _ (M : Number → Type 0) (s : LineSet) (ok : SetOk s) (shaped : Shaped s
     press-among false c = tt
 
     -- the desk that a mobile calls is a running entitled one
-    called_listens : x.kind ≡ 9 → Listens around (channel_at s x.channel) (called_place s.desks s.size.desks x.called)
-    called_listens k = all-listen (channel_at s x.channel) _ ((row-finds s e x z).call-heard k)
+    called_listens : entry_kind x ≡ 9 → Listens around (channel_at s (entry_channel x)) (called_place s.desks s.size.desks (entry_called x))
+    called_listens k = all-listen (channel_at s (entry_channel x)) _ ((row-finds s e x z).call-heard k)
 
     -- by the set served: an entry other than a plan finds one, and a plan finds none (rows 4 and 5)
     abbrev TellsFor : Effect → Type 0
     TellsFor f = Tells M (cond s.planned s f.after) f
 
-    served : (f : Effect) → eqb x.kind 7 ≡ false → Tells M s f → TellsFor f
-    served f k h = go s.planned (eqb x.kind 7) k rows.row4-fails
+    served : (f : Effect) → eqb (entry_kind x) 7 ≡ false → Tells M s f → TellsFor f
+    served f k h = go s.planned (eqb (entry_kind x) 7) k rows.row4-fails
       where
         go : (t u : Bool) → u ≡ false → (not t && not u) ≡ false → Tells M (cond t s f.after) f
         go true u p n = h
         go false false p n = absurd (false≢true (sym n))
         go false true p n = absurd (false≢true (sym p))
 
-    made : x.kind ≡ 7 → TellsFor (on_plan (plan_in e))
+    made : entry_kind x ≡ 7 → TellsFor (on_plan (plan_in e))
     made k = go s.planned (rw k at rows.row5-fails)
       where
         go : (t : Bool) → (t && true) ≡ false → Tells M (cond t s (set_of (plan_in e))) (on_plan (plan_in e))
@@ -242,10 +241,10 @@ module _ (M : Number → Type 0) (s : LineSet) (ok : SetOk s) (shaped : Shaped s
     unfolding accepted_by accepted
     accepted-tells =
         let fits = entry-fits s ok e x a z in
-        let on = on-tells x.channel in
-        pick_each TellsFor x.kind _ (ways (answers_in s x.desk asked) s e x) (record { among-after = among; sent-right = tt })
+        let on = on-tells (entry_channel x) in
+        pick_each TellsFor (entry_kind x) _ (ways (answers_in s (entry_desk x) asked) s e x) (record { among-after = among; sent-right = tt })
         ((λ k. served _ (rw k) (telegram-tells k))
-        ▹ (λ k. served _ (rw k) (on _ (found s e x z 2 refl refl k) (fits.press-fits k) (press-among (eqb x.on 1) _)))
+        ▹ (λ k. served _ (rw k) (on _ (found s e x z 2 refl refl k) (fits.press-fits k) (press-among (entry_on x) _)))
         ▹ (λ k. served _ (rw k) (on Cut (found s e x z 3 refl refl k) (fits.cut_fits k) tt))
         ▹ (λ k. served _ (rw k) (on _ (found s e x z 4 refl refl k) (fits.on_fits k) (brings (inl k))))
         ▹ (λ k. served _ (rw k) (on MobileOff (found s e x z 5 refl refl k) (fits.off-fits k) tt))

@@ -7,8 +7,8 @@ use mathlib.Core.Path.{◌≡◌, refl, ap}
 use native.Mathlib.Omega.{arith}
 use lib.Count.{ones_in}
 use lib.ListN.{get_or}
+use Rattle.std.specs.Prelude.{Option}
 use Rattle.numerals.specs.Digits.{digits_of, all_digits, value_from}
-use Rattle.numerals.specs.declared.digits.Digits.{Digits}
 use Rattle.fields.specs.Fields.{body_ok, values_in, bytes_of}
 use Rattle.telegram.specs.Telegram.{header_ok, read_telegram, telegram_of}
 use Rattle.channel.specs.State.{is_in}
@@ -16,7 +16,7 @@ use Rattle.line_rules.specs.Rules.{capture, press_on, press_off, mobile_on, ring
 use Rattle.set_state.specs.State.{new_set, place_of, running_from, desk_place}
 use Rattle.set_state.specs.declared.state.LineSet.{LineSet}
 use Rattle.laws.specs.Table.{pick}
-use Rattle.set_rules.specs.Entries.{read_entry}
+use Rattle.set_rules.specs.Entries.{read_entry, entry_kind, entry_desk, entry_channel, entry_on, entry_base, entry_number, entry_called}
 use Rattle.set_rules.specs.Plan.{desks_ok, desks_in, has_number, distinct, channels_ok, channels_in, plan_ok, set_of}
 use Rattle.set_rules.specs.Refusals.{number_in, first_of, refusal_of}
 use Rattle.set_rules.specs.Records.{delivered, to_each, records_of, space_of}
@@ -56,7 +56,7 @@ talk-alike = record { kind-is = refl; bytes = record { long = refl; front = refl
 
 -- In what the seventh entry sends, the number of the 550464 ends behind a contact of 8 bytes and 5, 16 and 14 more.
 pub witness : Speaks
-unfolding last_in learnt spelled ones_in digits_of all_digits value_from body_ok values_in bytes_of header_ok read_telegram telegram_of is_in capture mobile_on happens place_of running_from read_entry desks_ok desks_in has_number distinct channels_ok channels_in plan_ok set_of first_of refusal_of delivered to_each records_of space_of on_channel pick accepted_by accepted outcome_of step_of after frames_to of_desk views
+unfolding last_in learnt spelled ones_in digits_of all_digits value_from body_ok values_in bytes_of header_ok read_telegram telegram_of is_in capture mobile_on happens place_of running_from read_entry desks_ok desks_in has_number distinct channels_ok channels_in plan_ok set_of first_of refusal_of delivered to_each records_of space_of on_channel pick accepted_by accepted outcome_of step_of after frames_to of_desk views entry_kind entry_desk entry_channel entry_on entry_base entry_number entry_called
 witness = record {
   related =
       same_first new_set (map lent (both_running ++ (capture_entry 7 ∷ [])))
@@ -77,12 +77,12 @@ unfolding spelled digits_of all_digits value_from
 answer-alike = record { kind-is = refl; other = other; identifier = refl; bytes = record { long = refl; front = refl; back = refl }; digits = refl }
 
 call-may : MayDiffer 1 (after new_set (map lent both_running)) (call_entry 990007) (call_entry 990008)
-unfolding spelled ones_in digits_of all_digits value_from body_ok values_in bytes_of header_ok read_telegram telegram_of is_in place_of running_from read_entry desks_ok desks_in has_number distinct channels_ok channels_in plan_ok set_of first_of refusal_of delivered to_each records_of space_of pick accepted_by accepted outcome_of step_of after
-call-may = calls-other call-alike (λ i p. let q : ◌≡◌ {A = ℕ} 120001 130001 = ap (λ (d : Digits). (number_in d).digits) p in omega arith)
+unfolding spelled ones_in digits_of all_digits value_from body_ok values_in bytes_of header_ok read_telegram telegram_of is_in place_of running_from read_entry desks_ok desks_in has_number distinct channels_ok channels_in plan_ok set_of first_of refusal_of delivered to_each records_of space_of pick accepted_by accepted outcome_of step_of after entry_kind entry_desk entry_channel entry_on entry_base entry_number entry_called
+call-may = calls-other call-alike (λ i p. let q : ◌≡◌ {A = ℕ} 120001 130001 = ap (λ (d : Option ℕ). (number_in d).digits) p in omega arith)
 
 -- In what the sixth entry sends, the number of the 550468 ends behind a contact of 8 bytes and 5, 16 and 12 more.
 pub rings-witness : SpeaksOfRings
-unfolding last_in learnt spelled ones_in digits_of all_digits value_from body_ok values_in bytes_of header_ok read_telegram telegram_of is_in ring answered ring_answer happens place_of running_from desk_place read_entry desks_ok desks_in has_number distinct channels_ok channels_in plan_ok set_of first_of refusal_of delivered to_each records_of space_of on_channel pick accepted_by accepted outcome_of step_of after frames_to of_desk views
+unfolding last_in learnt spelled ones_in digits_of all_digits value_from body_ok values_in bytes_of header_ok read_telegram telegram_of is_in ring answered ring_answer happens place_of running_from desk_place read_entry desks_ok desks_in has_number distinct channels_ok channels_in plan_ok set_of first_of refusal_of delivered to_each records_of space_of on_channel pick accepted_by accepted outcome_of step_of after frames_to of_desk views entry_kind entry_desk entry_channel entry_on entry_base entry_number entry_called
 rings-witness = record {
   related =
       same_first new_set (map lent both_running)
@@ -96,7 +96,7 @@ rings-witness = record {
 
 -- With the same answer the second feed's is a wrong one: desk 1 receives the 550651 in the first alone.
 pub agreement_needed : AgreementNeeded
-unfolding learnt spelled ones_in digits_of all_digits value_from body_ok values_in bytes_of header_ok read_telegram telegram_of is_in ring answered ring_answer happens place_of running_from desk_place read_entry desks_ok desks_in has_number distinct channels_ok channels_in plan_ok set_of first_of refusal_of delivered to_each records_of space_of on_channel pick accepted_by accepted outcome_of step_of frames_to of_desk views
+unfolding learnt spelled ones_in digits_of all_digits value_from body_ok values_in bytes_of header_ok read_telegram telegram_of is_in ring answered ring_answer happens place_of running_from desk_place read_entry desks_ok desks_in has_number distinct channels_ok channels_in plan_ok set_of first_of refusal_of delivered to_each records_of space_of on_channel pick accepted_by accepted outcome_of step_of frames_to of_desk views entry_kind entry_desk entry_channel entry_on entry_base entry_number entry_called
 agreement_needed = record {
   may = call-may;
   told = λ p. let q : ◌≡◌ {A = ℕ} 1 0 = ap (learnt 6 2) p in omega arith;
@@ -105,5 +105,5 @@ agreement_needed = record {
 -- ---- the ticks
 
 pub ticks_met : TicksMet
-unfolding spelled ones_in digits_of all_digits value_from body_ok values_in bytes_of header_ok read_telegram telegram_of is_in capture press_on press_off tick tick_idle tick_quiet tick_release happens place_of running_from read_entry desks_ok desks_in has_number distinct channels_ok channels_in plan_ok set_of first_of refusal_of delivered to_each records_of space_of on_channel sends_of on_tick pick accepted_by accepted outcome_of step_of run after
+unfolding spelled ones_in digits_of all_digits value_from body_ok values_in bytes_of header_ok read_telegram telegram_of is_in capture press_on press_off tick tick_idle tick_quiet tick_release happens place_of running_from read_entry desks_ok desks_in has_number distinct channels_ok channels_in plan_ok set_of first_of refusal_of delivered to_each records_of space_of on_channel sends_of on_tick pick accepted_by accepted outcome_of step_of run after entry_kind entry_desk entry_channel entry_on entry_base entry_number entry_called
 ticks_met = record { one = refl; held = refl; alone = refl; let_go = refl; taken = refl }

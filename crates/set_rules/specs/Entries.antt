@@ -1,48 +1,93 @@
 -- 01, Entries and records, with 02 §1's kinds: what an entry's bytes ask for, or refusal 1, 2 or 3.
-use Rattle.std.specs.Prelude.{ℕ, ◌+◌, List, [], ◌∷◌, Bool, true, false, ◌&&◌, cond, eqb, leb, length, take, drop}
+use Rattle.std.specs.Prelude.{ℕ, ◌+◌, List, [], ◌∷◌, Bool, true, false, ◌&&◌, ◌||◌, cond, eqb, leb, length, take, drop, Option, None, Result, Ok, Err}
 use Rattle.numerals.specs.Digits.{digits_in}
-use Rattle.numerals.specs.declared.digits.Digits.{Digits}
-use Rattle.numerals.specs.declared.digits.Digits.TheVariants.{Malformed}
 use Rattle.laws.specs.Table.{pick}
 use Rattle.frames.specs.Bytes.{byte, word}
+use Rattle.set_state.specs.Entry.{desk_from, channel_from}
+use Rattle.set_state.specs.declared.state.Refusal.{Refusal}
+use Rattle.set_state.specs.declared.state.Refusal.TheVariants.{Length, Version, Payload}
 use Rattle.set_state.specs.declared.state.Entry.{Entry}
+use Rattle.set_state.specs.declared.state.Entry.TheVariants.{Telegram, Press, Cut, MobileOn, MobileOff, Tick, Plan, Handover, MobileCall, MobileCancel}
 
 -- 1: "fewer than 4 bytes, length wrong, or above 12,000"; the length "counts all bytes after it"
 abbrev pub measured : List ℕ → Bool
 measured e = leb 4 (length e) && eqb (word e 0 + 2) (length e) && leb (word e 0) 12000
 
--- refusals 1, 2 and 3
-abbrev pub bad : ℕ → Entry
-bad n = record { refusal = n; kind = 0; desk = 0; channel = 0; on = 0; base = 0; number = Malformed; called = Malformed }
+-- ---- what an entry's bytes ask for, or why they ask for nothing. What a kind does not have is 0, false or no number.
+abbrev pub ReadEntry : Type 0
+ReadEntry = Result Entry Refusal
 
--- an entry of a kind, with what the kind has of a desk, a channel, on, a base and a number
-abbrev pub asks : ℕ → ℕ → ℕ → ℕ → ℕ → Digits → Entry
-asks k d ch on b n = record { refusal = 0; kind = k; desk = d; channel = ch; on = on; base = b; number = n; called = Malformed }
+-- "1 telegram ..; 2 press ..; 3 cut ..; 4 mobile on ..; 5 mobile off ..; 6 tick ..; 7 plan; 8 handover"; 02 §1: "mobile call .., kind 9, and
+-- mobile cancel .., kind 10"
+unfoldable pub entry_kind : ReadEntry → ℕ
+entry_kind (Ok (Telegram d)) = 1
+entry_kind (Ok (Press d ch on)) = 2
+entry_kind (Ok (Cut d ch)) = 3
+entry_kind (Ok (MobileOn ch b n)) = 4
+entry_kind (Ok (MobileOff ch)) = 5
+entry_kind (Ok Tick) = 6
+entry_kind (Ok Plan) = 7
+entry_kind (Ok Handover) = 8
+entry_kind (Ok (MobileCall ch b n m)) = 9
+entry_kind (Ok (MobileCancel ch)) = 10
+entry_kind (Err r) = 0
 
--- a mobile call: a channel, a base, the mobile's number and the called number
-abbrev pub calls : ℕ → ℕ → Digits → Digits → Entry
-calls ch b n m = record { refusal = 0; kind = 9; desk = 0; channel = ch; on = 0; base = b; number = n; called = m }
+unfoldable pub entry_desk : ReadEntry → ℕ
+entry_desk (Ok x) = desk_from x
+entry_desk (Err r) = 0
+
+unfoldable pub entry_channel : ReadEntry → ℕ
+entry_channel (Ok x) = channel_from x
+entry_channel (Err r) = 0
+
+unfoldable pub entry_on : ReadEntry → Bool
+entry_on (Ok (Press d ch on)) = on
+entry_on _ = false
+
+unfoldable pub entry_base : ReadEntry → ℕ
+entry_base (Ok (MobileOn ch b n)) = b
+entry_base (Ok (MobileCall ch b n m)) = b
+entry_base _ = 0
+
+-- the mobile's number, and that of the desk that it calls
+unfoldable pub entry_number : ReadEntry → Option ℕ
+entry_number (Ok (MobileOn ch b n)) = n
+entry_number (Ok (MobileCall ch b n m)) = n
+entry_number _ = None
+
+unfoldable pub entry_called : ReadEntry → Option ℕ
+entry_called (Ok (MobileCall ch b n m)) = m
+entry_called _ = None
 
 -- the number in a mobile on or a mobile call, eight bytes behind channel and base, and behind it the called number
-abbrev pub mobile_in : List ℕ → Digits
+abbrev pub mobile_in : List ℕ → Option ℕ
 mobile_in e = digits_in (take 8 (drop 6 e))
 
-abbrev pub called_in : List ℕ → Digits
+abbrev pub called_in : List ℕ → Option ℕ
 called_in e = digits_in (take 8 (drop 14 e))
 
--- The kinds: "1 telegram: desk, telegram bytes; 2 press: desk, channel, on; 3 cut: desk, channel; 4 mobile on: channel, base 0
--- to 29, 8-byte number; 5 mobile off: channel; 6 tick: none; 7 plan; 8 handover: none"; 02 §1: "mobile call (channel, base, mobile's
--- number, called number), kind 9, and mobile cancel (channel), kind 10"
+-- "1 telegram: desk, telegram bytes; 2 press: desk, channel, on; 3 cut: desk, channel; 4 mobile on: channel, base 0 to 29, 8-byte
+-- number; 5 mobile off: channel; 6 tick: none; 7 plan; 8 handover: none"; 02 §1: "mobile call (channel, base, mobile's number, called
+-- number), kind 9, and mobile cancel (channel), kind 10"
 abbrev pub payload : ℕ → List ℕ → Entry
 payload k e =
-    cond (eqb k 1) (asks 1 (byte e 4) 0 0 0 Malformed)
-    (cond (eqb k 2) (asks 2 (byte e 4) (byte e 5) (byte e 6) 0 Malformed)
-    (cond (eqb k 3) (asks 3 (byte e 4) (byte e 5) 0 0 Malformed)
-    (cond (eqb k 4) (asks 4 0 (byte e 4) 0 (byte e 5) (mobile_in e))
-    (cond (eqb k 5) (asks 5 0 (byte e 4) 0 0 Malformed)
-    (cond (eqb k 9) (calls (byte e 4) (byte e 5) (mobile_in e) (called_in e))
-    (cond (eqb k 10) (asks 10 0 (byte e 4) 0 0 Malformed)
-    (asks k 0 0 0 0 Malformed)))))))
+    cond (eqb k 1) (Telegram (byte e 4))
+    (cond (eqb k 2) (Press (byte e 4) (byte e 5) (eqb (byte e 6) 1))
+    (cond (eqb k 3) (Cut (byte e 4) (byte e 5))
+    (cond (eqb k 4) (MobileOn (byte e 4) (byte e 5) (mobile_in e))
+    (cond (eqb k 5) (MobileOff (byte e 4))
+    (cond (eqb k 6) Tick
+    (cond (eqb k 7) Plan
+    (cond (eqb k 9) (MobileCall (byte e 4) (byte e 5) (mobile_in e) (called_in e))
+    (cond (eqb k 10) (MobileCancel (byte e 4))
+    Handover))))))))
+
+-- the bytes of on and of the base, 0 where a kind has none
+abbrev pub on_byte : ℕ → List ℕ → ℕ
+on_byte k e = cond (eqb k 2) (byte e 6) 0
+
+abbrev pub base_byte : ℕ → List ℕ → ℕ
+base_byte k e = cond (eqb k 4 || eqb k 9) (byte e 5) 0
 
 -- "payload size wrong (kind 1 needs a desk byte; kind 7 is judged at 6)", by kind; the four bytes before the payload count here
 abbrev pub sizes : List (ℕ × (ℕ → Bool))
@@ -55,14 +100,14 @@ size_ok k n = pick k (λ n. false) sizes n
 
 -- 3: "kind not 1 to" 10, by 02 §1; "payload size wrong ..; on above 1; base above 29"
 abbrev pub payload_ok : ℕ → List ℕ → Bool
-payload_ok k e = size_ok k (length e) && leb (payload k e).on 1 && leb (payload k e).base 29
+payload_ok k e = size_ok k (length e) && leb (on_byte k e) 1 && leb (base_byte k e) 29
 
 -- what an entry asks for; 2: "version is not 1"
-unfoldable pub read_entry : List ℕ → Entry
+unfoldable pub read_entry : List ℕ → ReadEntry
 read_entry e =
     cond (measured e)
-    (cond (eqb (byte e 2) 1) (cond (payload_ok (byte e 3) e) (payload (byte e 3) e) (bad 3)) (bad 2))
-    (bad 1)
+    (cond (eqb (byte e 2) 1) (cond (payload_ok (byte e 3) e) (Ok (payload (byte e 3) e)) (Err Payload)) (Err Version))
+    (Err Length)
 
 -- the bytes of a telegram, and of a plan
 abbrev pub telegram_in : List ℕ → List ℕ

@@ -1,15 +1,15 @@
 -- One entry, and feeds: "a list of entries of any bytes, refused ones included, each with a lent buffer".
-use Rattle.std.specs.Prelude.{ℕ, List, [], ◌∷◌, ◌++◌, cond, ◌≡◌, eqb, leb, length, take, get_or}
+use Rattle.std.specs.Prelude.{ℕ, List, [], ◌∷◌, ◌++◌, cond, ◌≡◌, eqb, leb, length, take, get_or, Result}
 use Rattle.telegram.specs.Telegram.{over}
 use Rattle.frames.specs.Frames.{frames_in}
-use Rattle.set_rules.specs.Entries.{read_entry}
+use Rattle.set_rules.specs.Entries.{read_entry, ReadEntry}
 use Rattle.set_rules.specs.Refusals.{refusal_of}
 use Rattle.set_rules.specs.Records.{records_of, space_of}
 use Rattle.set_rules.specs.SetRules.{Effect, accepted}
-use Rattle.set_state.specs.declared.state.Entry.{Entry}
 use Rattle.set_state.specs.declared.state.LineSet.{LineSet}
 use Rattle.set_state.specs.declared.state.Answer.{Answer}
-use Rattle.set_state.specs.declared.state.Reply.{Reply}
+use Rattle.set_state.specs.declared.state.Refusal.{Refusal}
+use Rattle.set_state.specs.Entry.{refusal_in, count_in}
 
 -- "The answer is the refusal number (0 if accepted), the byte count written, and the set after"; and the bytes written
 pub record Outcome : Type 0 where
@@ -18,20 +18,27 @@ pub record Outcome : Type 0 where
   pub after : LineSet
   pub bytes : List ℕ
 
-abbrev pub answer_of : Outcome → Answer
+-- an answer in such numbers
+pub record Numbers : Type 0 where
+  pub set : LineSet
+  pub count : ℕ
+  pub refusal : ℕ
+
+abbrev pub answer_of : Outcome → Numbers
 answer_of o = record { set = o.after; count = o.count; refusal = o.refusal }
+
+-- the same of the answer that the code gives
+abbrev pub numbers_in : Answer → Numbers
+numbers_in r = record { set = r.set; count = count_in r.reply; refusal = refusal_in r.reply }
 
 -- an answer and a buffer after, as an outcome gives them; "bytes past the last record stay as they were"
 pub record Gives (o : Outcome) (r : Answer) (before after : List ℕ) : Type 0 where
-  pub answer : r ≡ answer_of o
+  pub answer : numbers_in r ≡ answer_of o
   pub bytes : after ≡ over o.bytes before
 
 -- the same where the set is lent: the set after is where the set lay
-abbrev pub reply_of : Outcome → Reply
-reply_of o = record { count = o.count; refusal = o.refusal }
-
-abbrev pub GivesIn : Outcome → Reply → LineSet → List ℕ → List ℕ → Type 0
-GivesIn o r set before after = (r ≡ reply_of o) × ((set ≡ o.after) × (after ≡ over o.bytes before))
+abbrev pub GivesIn : Outcome → Result ℕ Refusal → LineSet → List ℕ → List ℕ → Type 0
+GivesIn o r set before after = Gives o (record { set = set; reply = r }) before after
 
 -- "Each refusal returns count 0 and leaves set and buffer untouched."
 abbrev pub refuse : ℕ → LineSet → Outcome
@@ -45,7 +52,7 @@ emit s f room =
     (refuse 16 s)
 
 -- an entry x, read from the bytes e, before a set, with a buffer of so many bytes
-unfoldable pub outcome_of : LineSet → List ℕ → Entry → ℕ → Outcome
+unfoldable pub outcome_of : LineSet → List ℕ → ReadEntry → ℕ → Outcome
 outcome_of s e x room = cond (eqb (refusal_of s e x) 0) (emit s (accepted s e x) room) (refuse (refusal_of s e x) s)
 
 -- an entry of any bytes

@@ -1,10 +1,9 @@
 -- Records as they read: what stands among the bytes written, and what the rules name.
-use Rattle.std.specs.Prelude.{ℕ, zero, suc, List, [], ◌∷◌, ◌++◌, map, ◌&&◌, cond, eqb, length, drop, get_or}
+use Rattle.std.specs.Prelude.{ℕ, zero, suc, List, [], ◌∷◌, ◌++◌, map, ◌&&◌, cond, eqb, length, drop, get_or, Ok, Err}
 use Rattle.telegram.specs.Telegram.{read_telegram}
 use Rattle.telegram.specs.declared.message.Message.{Message}
 use Rattle.telegram.specs.declared.message.Message.TheVariants.{TimeNotice, RingAnswer, OperationAnswer, TimeRequest, BaseArrival, RingNotice, AnswerReply, OperationRequest, Call, CallerNotice, CallResult, CaptureRequest, CaptureReply, CaptureState}
-use Rattle.telegram.specs.declared.message.Reading.{Reading}
-use Rattle.telegram.specs.declared.message.Reading.TheVariants.{Telegram, Refused}
+use Rattle.telegram.specs.Telegram.{Reading}
 use Rattle.channel.specs.State.{is_in}
 use Rattle.line_rules.specs.Notices.{Content, telegram, contact}
 use Rattle.set_state.specs.State.{no_desk}
@@ -22,8 +21,8 @@ pub data Letter : Type 0 where
 -- ---- among bytes
 
 abbrev pub said_to : ℕ → Reading → Letter
-said_to d (Telegram c m) = says d c m
-said_to d (Refused n c i) = unread
+said_to d (Ok t) = says d t.code t.message
+said_to d (Err e) = unread
 
 -- "length .., version 1, desk, then 1 and a telegram under that desk's code, or 2 and a contact (..; channel; on)"
 abbrev pub read_record : List ℕ → Letter

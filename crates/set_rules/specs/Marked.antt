@@ -1,14 +1,12 @@
 -- 01, Either side of each edge: the cases marked (p), "one table under one theorem".
-use Rattle.std.specs.Prelude.{ℕ, ◌-◌, List, [], ◌∷◌, ◌++◌, map, Bool, true, false, ◌≡◌, length, replicate, get_or}
+use Rattle.std.specs.Prelude.{ℕ, ◌-◌, List, [], ◌∷◌, ◌++◌, map, Bool, true, false, ◌≡◌, length, replicate, get_or, None, Some}
 use Rattle.laws.specs.Each.{Each}
 use Rattle.telegram.specs.Telegram.{read_telegram, read_refusal}
 use Rattle.line_rules.specs.Rules.{end_of, freed_sends}
 use Rattle.channel.specs.State.{is_held, is_open}
-use Rattle.channel.specs.declared.state.Arrival.TheVariants.{Absent}
 use Rattle.channel.specs.declared.state.Channel.{Channel}
-use Rattle.channel.specs.declared.state.Party.TheVariants.{By}
 use Rattle.set_state.specs.State.{new_set, no_channel, listeners_of}
-use Rattle.set_rules.specs.Entries.{read_entry}
+use Rattle.set_rules.specs.Entries.{read_entry, entry_kind, entry_on}
 use Rattle.set_rules.specs.Records.{delivered, records_of}
 use Rattle.set_rules.specs.Feeds.{Outcome, Item, step_of, step_by, run, after}
 use Rattle.set_rules.specs.Spelling.{dv, entry_of, lent, capture_entry, until_running}
@@ -81,8 +79,8 @@ freed_bytes s c = records_of s.desks (delivered s.desks c.code (freed_sends (lis
 abbrev pub EndsAt : ℕ → ℕ → Type 0
 EndsAt end release =
     (f : List Item) (c : Channel) (rest : List Channel) (d : ℕ)
-    → (after new_set f).size.channels ≡ 1 → (after new_set f).channels ≡ c ∷ rest → c.holder ≡ By d → c.arrival ≡ Absent
-    → (i : Item) → (read_entry i.entry).kind ≡ 2 → (read_entry i.entry).on ≡ 0 → (step_by (after new_set f) i).refusal ≡ 0
+    → (after new_set f).size.channels ≡ 1 → (after new_set f).channels ≡ c ∷ rest → c.holder ≡ Some d → c.arrival ≡ None
+    → (i : Item) → entry_kind (read_entry i.entry) ≡ 2 → entry_on (read_entry i.entry) ≡ false → (step_by (after new_set f) i).refusal ≡ 0
     → (bs : List (List ℕ)) → length bs ≡ release → Each Accepted (run (step_by (after new_set f) i).after (ticks_with bs))
     → map tick_of (run (step_by (after new_set f) i).after (ticks_with bs))
     ≡ replicate (end - 1) (ticked_by [] true true)

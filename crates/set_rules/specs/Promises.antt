@@ -1,11 +1,9 @@
 -- What is promised of the set, as statements about the definitions. `proofs/` proves each under the name given with it. Two tables
 -- stand beside them: the cases marked (p) in `Marked.antt`, and worked examples in `Examples.antt`.
-use Rattle.std.specs.Prelude.{ℕ, ◌≤◌, ◌<◌, List, [], ◌∷◌, ◌++◌, Bool, true, false, cond, ◌⊎◌, ◌≡◌, length, take, drop, get_or}
+use Rattle.std.specs.Prelude.{ℕ, ◌≤◌, ◌<◌, List, [], ◌∷◌, ◌++◌, Bool, true, false, cond, ◌⊎◌, ◌≡◌, length, take, drop, get_or, Option, None, Some}
 use Rattle.laws.specs.Each.{Each}
 use Rattle.laws.specs.Alike.{AlikeBut}
 use Rattle.numerals.specs.Digits.{digits_of}
-use Rattle.numerals.specs.declared.digits.Digits.{Digits}
-use Rattle.numerals.specs.declared.digits.Digits.TheVariants.{Value}
 use Rattle.telegram.specs.Promises.{digits_at}
 use Rattle.telegram.specs.Telegram.{read_telegram, over}
 use Rattle.telegram.specs.declared.message.Number.{Number}
@@ -14,19 +12,16 @@ use Rattle.line_rules.specs.Notices.{telegram}
 use Rattle.line_rules.specs.Invariant.{Idle}
 use Rattle.line_rules.specs.Among.{numbers_in, ForDesk}
 use Rattle.channel.specs.State.{is_in}
-use Rattle.channel.specs.declared.state.Arrival.TheVariants.{Absent}
 use Rattle.channel.specs.declared.state.Event.TheVariants.{Release}
-use Rattle.channel.specs.declared.state.Party.{Party}
-use Rattle.channel.specs.declared.state.Party.TheVariants.{Nobody, By}
 use Rattle.set_state.specs.State.{new_set, no_desk, own_of, channels_of, channel_at, listeners_of}
 use Rattle.frames.specs.Bytes.{byte}
-use Rattle.set_rules.specs.Entries.{mobile_in, called_in, read_entry, telegram_in}
+use Rattle.set_rules.specs.Entries.{mobile_in, called_in, read_entry, telegram_in, entry_kind, entry_desk, entry_channel, entry_on, entry_number, entry_called, ReadEntry}
 use Rattle.set_rules.specs.Refusals.{is_kind, is_caller, asked_in, named, number_in, called_place}
 use Rattle.set_rules.specs.SetRules.{Effect, is_called, answers_in, accepted}
 use Rattle.set_rules.specs.Invariant.{SetOk, Shaped, Running, around_of, AllAmong}
 use Rattle.set_rules.specs.Feeds.{Outcome, Item, step_of, step_by, run, after, written_in, views}
 use Rattle.set_rules.specs.Letters.{Letter, says, rings, unread, letters_in, letters_of, channel_named}
-use Rattle.set_state.specs.declared.state.Entry.{Entry}
+use Rattle.set_state.specs.Entry.{refusal_in}
 use Rattle.set_state.specs.declared.state.LineSet.{LineSet}
 use Rattle.set_state.specs.declared.state.Request.{Request}
 use Rattle.set_state.specs.declared.state.Request.TheVariants.{OnChannel, Foreign}
@@ -58,16 +53,16 @@ Written =
 pub record Renumbered (kind : ℕ) (e e' : List ℕ) : Type 0 where
   pub kind-is : byte e 3 ≡ kind
   pub bytes : AlikeBut 6 8 e e'
-  pub callers : (read_entry e).refusal ≡ 0 → is_caller (mobile_in e) ≡ is_caller (mobile_in e')
+  pub callers : refusal_in (read_entry e) ≡ 0 → is_caller (mobile_in e) ≡ is_caller (mobile_in e')
 
 -- "a desk other than B holds"
-abbrev pub OtherHolds : ℕ → Party → Type 0
-OtherHolds B Nobody = ⊥
-OtherHolds B (By d) = d ≡ B → ⊥
+abbrev pub OtherHolds : ℕ → Option ℕ → Type 0
+OtherHolds B None = ⊥
+OtherHolds B (Some d) = d ≡ B → ⊥
 
 -- 02 §1: "where B is not called": the called number is not that of desk B
-abbrev pub NotCalled : ℕ → LineSet → Digits → Type 0
-NotCalled B s called = B < s.size.desks → called ≡ Value (own_of s.desks B).digits → ⊥
+abbrev pub NotCalled : ℕ → LineSet → Option ℕ → Type 0
+NotCalled B s called = B < s.size.desks → called ≡ Some (own_of s.desks B).digits → ⊥
 
 -- 550419s of a desk other than B, alike but for the eight bytes of the source, digits in both or in neither: in a letter's place they
 -- are refused with 10. This is wider than 02 §1, which speaks of "the well-formed number in the called desk's 550419": here the desk need
@@ -89,22 +84,22 @@ pub data MayDiffer (B : ℕ) (s : LineSet) (e e' : List ℕ) : Type 0 where
 
 -- what an entry asks, if it is a telegram
 abbrev pub request_in : List ℕ → Request
-request_in e = cond (is_kind 1 (read_entry e)) (asked_in (read_entry e).desk (read_telegram (telegram_in e))) Foreign
+request_in e = cond (is_kind 1 (read_entry e)) (asked_in (entry_desk (read_entry e)) (read_telegram (telegram_in e))) Foreign
 
 -- "must match": whether an entry answers a ring
 abbrev pub matches_in : LineSet → List ℕ → Bool
-matches_in s e = answers_in s (read_entry e).desk (request_in e)
+matches_in s e = answers_in s (entry_desk (read_entry e)) (request_in e)
 
 -- "every 550419 of that desk": a ring answer, on its channel, of the desk that is called there
 abbrev pub from_called : LineSet → List ℕ → Bool
-from_called s e = named false (λ ch n. false) (λ m. is_called (read_entry e).desk (channel_at s m.channel)) (request_in e)
+from_called s e = named false (λ ch n. false) (λ m. is_called (entry_desk (read_entry e)) (channel_at s m.channel)) (request_in e)
 
 -- Two entries, each before a set of its own. 02 §1: "every 550419 of that desk, differing or not, must match in one feed exactly when it
 -- does in the other". It is asked of the called desk's alone, if that is not B: of B's own, and of those of a desk that is not called, it
 -- is proved (`Isolation.own_agrees`).
 pub record Alike (B : ℕ) (s s' : LineSet) (e e' : List ℕ) : Type 0 where
   pub may : MayDiffer B s e e'
-  pub agree : ((read_entry e).desk ≡ B → ⊥) → from_called s e ≡ true → matches_in s e ≡ matches_in s' e'
+  pub agree : (entry_desk (read_entry e) ≡ B → ⊥) → from_called s e ≡ true → matches_in s e ≡ matches_in s' e'
 
 -- Two feeds, each from a set, that differ only so, with buffers as long as each other, "whatever that held". "Who holds is what the
 -- line rules and refusals give for the entries before", in the first feed; who is called, likewise.
@@ -120,13 +115,13 @@ Isolated = (B : ℕ) (f f' : List Item) → Related B new_set new_set f f' → v
 
 -- 5. An accepted handover leaves a new set (`Answers.made_new`).
 abbrev pub HandoverMakesNew : Type 0
-HandoverMakesNew = (s : LineSet) (h : Item) → (read_entry h.entry).kind ≡ 8 → (step_by s h).refusal ≡ 0 → (step_by s h).after ≡ new_set
+HandoverMakesNew = (s : LineSet) (h : Item) → entry_kind (read_entry h.entry) ≡ 8 → (step_by s h).refusal ≡ 0 → (step_by s h).after ≡ new_set
 
 -- So after any feed that ends with one, whatever feed follows gets the same answers and the same bytes as from a new set
 -- (`Answers.renewed`).
 abbrev pub Renewed : Type 0
 Renewed =
-    (f g : List Item) (h : Item) → (read_entry h.entry).kind ≡ 8 → (step_by (after new_set f) h).refusal ≡ 0
+    (f g : List Item) (h : Item) → entry_kind (read_entry h.entry) ≡ 8 → (step_by (after new_set f) h).refusal ≡ 0
     → run (after new_set (f ++ (h ∷ []))) g ≡ run new_set g
 
 -- ---- 6. In every state that a feed from a new set brings about:
@@ -142,11 +137,11 @@ AlwaysShaped = (f : List Item) → Shaped (after new_set f)
 
 -- every holder and everyone told of a call or of a mobile is a running entitled desk of the plan (`Told.always_among`). M is any
 -- property that every mobile's number of the feed has.
-abbrev pub BringsNumber : Entry → Type 0
-BringsNumber x = (x.kind ≡ 4) ⊎ (x.kind ≡ 9)
+abbrev pub BringsNumber : ReadEntry → Type 0
+BringsNumber x = (entry_kind x ≡ 4) ⊎ (entry_kind x ≡ 9)
 
 abbrev pub Brings : (Number → Type 0) → Item → Type 0
-Brings M i = BringsNumber (read_entry i.entry) → M (number_in (read_entry i.entry).number)
+Brings M i = BringsNumber (read_entry i.entry) → M (number_in (entry_number (read_entry i.entry)))
 
 abbrev pub AlwaysAmong : Type 1
 AlwaysAmong = (M : Number → Type 0) (f : List Item) → Each (Brings M) f → AllAmong M (after new_set f)
@@ -208,29 +203,29 @@ Roomy = (f : List Item) (i : Item) → room_enough ≤ length i.buffer → (step
 
 -- what ends the holding of desk d on channel ch: its release, its cut, the timer, a handover
 pub data Ends (s : LineSet) (e : List ℕ) (d ch : ℕ) : Type 0 where
-  released : (n : Number) → (read_entry e).kind ≡ 1 → (read_entry e).desk ≡ d
+  released : (n : Number) → entry_kind (read_entry e) ≡ 1 → entry_desk (read_entry e) ≡ d
       → asked_in d (read_telegram (telegram_in e)) ≡ OnChannel ch n (Release d) → Ends s e d ch
-  cut : (read_entry e).kind ≡ 3 → (read_entry e).desk ≡ d → (read_entry e).channel ≡ ch → Ends s e d ch
-  timed_out : (read_entry e).kind ≡ 6 → (channel_at s ch).release ≡ 1 → Ends s e d ch
-  handed-over : (read_entry e).kind ≡ 8 → Ends s e d ch
+  cut : entry_kind (read_entry e) ≡ 3 → entry_desk (read_entry e) ≡ d → entry_channel (read_entry e) ≡ ch → Ends s e d ch
+  timed_out : entry_kind (read_entry e) ≡ 6 → (channel_at s ch).release ≡ 1 → Ends s e d ch
+  handed-over : entry_kind (read_entry e) ≡ 8 → Ends s e d ch
 
 -- A holding lasts, or its holder, its timer or a handover ends it.
 abbrev pub HoldingEnds : Type 0
 HoldingEnds =
-    (f : List Item) (i : Item) (ch d : ℕ) → (channel_at (after new_set f) ch).holder ≡ By d
-    → ((channel_at (step_by (after new_set f) i).after ch).holder ≡ By d) ⊎ Ends (after new_set f) i.entry d ch
+    (f : List Item) (i : Item) (ch d : ℕ) → (channel_at (after new_set f) ch).holder ≡ Some d
+    → ((channel_at (step_by (after new_set f) i).after ch).holder ≡ Some d) ⊎ Ends (after new_set f) i.entry d ch
 
 -- 12. What an accepted entry finds (`Holdings.finds`): a press or a cut is the holder's; a press on finds no press, a mobile on no
 -- mobile and no ring, a mobile call an idle channel and a desk of the called number that listens on it, and a cancel a ring.
-pub record Finds (s : LineSet) (x : Entry) : Type 0 where
-  pub press-held : x.kind ≡ 2 → (channel_at s x.channel).holder ≡ By x.desk
-  pub cut-held : x.kind ≡ 3 → (channel_at s x.channel).holder ≡ By x.desk
-  pub press_new : x.kind ≡ 2 → x.on ≡ 1 → is_pressed (channel_at s x.channel) ≡ false
-  pub mobile_new : x.kind ≡ 4 → (channel_at s x.channel).arrival ≡ Absent
-  pub mobile-silent : x.kind ≡ 4 → is_ringing (channel_at s x.channel) ≡ false
-  pub call-idle : x.kind ≡ 9 → Idle (channel_at s x.channel)
-  pub call-heard : x.kind ≡ 9 → is_in (called_place s.desks s.size.desks x.called) (listeners_of s.desks s.size.desks (channel_at s x.channel)) ≡ true
-  pub cancel_rings : x.kind ≡ 10 → is_ringing (channel_at s x.channel) ≡ true
+pub record Finds (s : LineSet) (x : ReadEntry) : Type 0 where
+  pub press-held : entry_kind x ≡ 2 → (channel_at s (entry_channel x)).holder ≡ Some (entry_desk x)
+  pub cut-held : entry_kind x ≡ 3 → (channel_at s (entry_channel x)).holder ≡ Some (entry_desk x)
+  pub press_new : entry_kind x ≡ 2 → entry_on x ≡ true → is_pressed (channel_at s (entry_channel x)) ≡ false
+  pub mobile_new : entry_kind x ≡ 4 → (channel_at s (entry_channel x)).arrival ≡ None
+  pub mobile-silent : entry_kind x ≡ 4 → is_ringing (channel_at s (entry_channel x)) ≡ false
+  pub call-idle : entry_kind x ≡ 9 → Idle (channel_at s (entry_channel x))
+  pub call-heard : entry_kind x ≡ 9 → is_in (called_place s.desks s.size.desks (entry_called x)) (listeners_of s.desks s.size.desks (channel_at s (entry_channel x))) ≡ true
+  pub cancel_rings : entry_kind x ≡ 10 → is_ringing (channel_at s (entry_channel x)) ≡ true
 
 abbrev pub AcceptedFinds : Type 0
 AcceptedFinds = (s : LineSet) (i : Item) → (step_by s i).refusal ≡ 0 → Finds s (read_entry i.entry)

@@ -1,6 +1,6 @@
 -- What the crates of code cite of records, answers and plans, beside the promises: laws, each under the name given with it in
 -- `proofs/Kept.antt`. They are proved, and no rule rests on them.
-use Rattle.std.specs.Prelude.{ℕ, zero, suc, ◌+◌, ◌/◌, ◌%◌, ◌<◌, List, ◌++◌, ◌≡◌, eqb, length}
+use Rattle.std.specs.Prelude.{ℕ, zero, suc, ◌+◌, ◌/◌, ◌%◌, ◌<◌, List, ◌++◌, ◌≡◌, eqb, length, Ok, Err}
 use Rattle.laws.specs.Each.{Each}
 use Rattle.channel.specs.State.{is_in}
 use Rattle.channel.specs.declared.state.Channel.{Channel}
@@ -10,7 +10,9 @@ use Rattle.set_rules.specs.Plan.{desks_in, channels_in}
 use Rattle.set_rules.specs.Records.{Delivery, delivered, record_for, record_size, records_of, space_of}
 use Rattle.set_rules.specs.SetRules.{Effect, sends_of}
 use Rattle.set_rules.specs.Feeds.{Outcome, Gives, refuse, emit}
+use Rattle.set_state.specs.Entry.{number_of}
 use Rattle.set_state.specs.declared.state.Answer.{Answer}
+use Rattle.set_state.specs.declared.state.Refusal.{Refusal}
 use Rattle.set_state.specs.declared.state.Desk.{Desk}
 use Rattle.set_state.specs.declared.state.LineSet.{LineSet}
 
@@ -63,14 +65,14 @@ GivesAlike o o' r b a = o ≡ o' → Gives o r b a → Gives o' r b a
 
 -- A refusal leaves set and buffer (`left_as_was`), and what there is no room for is refused (`no_room`).
 abbrev pub LeftAsWas : Type 0
-LeftAsWas = (s : LineSet) (n : ℕ) (b : List ℕ) → Gives (refuse n s) (record { set = s; count = 0; refusal = n }) b b
+LeftAsWas = (s : LineSet) (n : Refusal) (b : List ℕ) → Gives (refuse (number_of n) s) (record { set = s; reply = Err n }) b b
 
 abbrev pub NoRoom : LineSet → List ℕ → Effect → Answer → Type 0
 NoRoom s b f r = length b < space_of f.sent → Gives (refuse 16 s) r b b → Gives (emit s f (length b)) r b b
 
 -- the answer to what is not refused
 abbrev pub accepted_with : LineSet → ℕ → Answer
-accepted_with t n = record { set = t; count = n; refusal = 0 }
+accepted_with t n = record { set = t; reply = Ok n }
 
 -- ---- plans
 

@@ -1,8 +1,8 @@
 -- 01, Line rules, and 02 §1: what an accepted entry does to the set, and what it sends.
-use Rattle.std.specs.Prelude.{ℕ, List, [], ◌∷◌, ◌++◌, map, Bool, false, ◌&&◌, cond, eqb, drop, set}
+use Rattle.std.specs.Prelude.{ℕ, List, [], ◌∷◌, ◌++◌, map, Bool, false, ◌&&◌, cond, eqb, drop, set, Option, None, Some}
 use Rattle.telegram.specs.Telegram.{read_telegram}
 use Rattle.telegram.specs.declared.message.Number.{Number}
-use Rattle.telegram.specs.declared.message.RingAnswer.{RingAnswer}
+use Rattle.telegram.specs.declared.message.Ring.{Ring as RingAnswer}
 use Rattle.telegram.specs.declared.message.Message.{Message}
 use Rattle.telegram.specs.declared.message.Message.TheVariants.{TimeRequest, OperationRequest}
 use Rattle.channel.specs.State.{only, first_desks}
@@ -10,20 +10,18 @@ use Rattle.line_rules.specs.Rules.{Step, individual, is_ringing, happens}
 use Rattle.line_rules.specs.Notices.{telegram}
 use Rattle.line_rules.specs.Turns.{told_of_call}
 use Rattle.channel.specs.declared.state.Call.{Call}
-use Rattle.channel.specs.declared.state.Call.TheVariants.{Closed, Open}
 use Rattle.channel.specs.declared.state.Channel.{Channel}
 use Rattle.channel.specs.declared.state.Event.{Event}
 use Rattle.channel.specs.declared.state.Event.TheVariants.{Cut, PressOn, PressOff, MobileOn, MobileOff, Ring, Cancel, RingAnswer as Answered, Tick, EndTalk, EndCall}
 use Rattle.channel.specs.declared.state.Send.{Send}
 use Rattle.set_state.specs.State.{new_set, own_of, channels_of, place_in, channel_at, listeners_of, with_channels, time_told, answered, with_link}
-use Rattle.set_rules.specs.Entries.{telegram_in, plan_in}
+use Rattle.set_rules.specs.Entries.{telegram_in, plan_in, entry_kind, entry_desk, entry_channel, entry_on, entry_base, entry_number, entry_called, ReadEntry}
 use Rattle.laws.specs.Table.{pick}
 use Rattle.set_rules.specs.Plan.{set_of}
 use Rattle.set_rules.specs.Refusals.{asked_in, number_in, called_place}
 use Rattle.set_rules.specs.Records.{Delivery, delivered}
 use Rattle.set_state.specs.declared.state.Desk.{Desk}
 use Rattle.set_state.specs.declared.state.LineSet.{LineSet}
-use Rattle.set_state.specs.declared.state.Entry.{Entry}
 use Rattle.set_state.specs.declared.state.LinkRequest.{LinkRequest}
 use Rattle.set_state.specs.declared.state.LinkRequest.TheVariants.{TellsTime, TellsState}
 use Rattle.set_state.specs.declared.state.Request.{Request}
@@ -100,9 +98,9 @@ abbrev pub is_called : ℕ → Channel → Bool
 is_called d c = is_ringing c && told_of_call d c.call
 
 -- the number of an open call, as digits
-abbrev pub caller_of : Call → ℕ
-caller_of Closed = 0
-caller_of (Open k d m b s) = s.digits
+abbrev pub caller_of : Option Call → ℕ
+caller_of None = 0
+caller_of (Some k) = k.source.digits
 
 -- 02 §1: "A 550419 with no ring on its channel, from another desk, or that doesn't match the notice in every body field both have, gets
 -- 550469 with 0." The notice had type 3, the mobile's number as source, and as destination the called desk's own.
@@ -139,22 +137,22 @@ on_request matched s d (AnswersRing m) = on_channel s m.channel (Answered d matc
 on_request matched s d Foreign = effect s s []
 
 -- what an accepted entry does, by its kind, and by whether it answers a ring
-abbrev pub ways : Bool → LineSet → List ℕ → Entry → List (ℕ × Effect)
+abbrev pub ways : Bool → LineSet → List ℕ → ReadEntry → List (ℕ × Effect)
 ways matched s e x =
-    (1, on_request matched s x.desk (asked_in x.desk (read_telegram (telegram_in e))))
-    ∷ (2, on_channel s x.channel (cond (eqb x.on 1) (PressOn x.desk (own_of s.desks x.desk)) PressOff))
-    ∷ (3, on_channel s x.channel Cut)
-    ∷ (4, on_channel s x.channel (MobileOn x.base (number_in x.number)))
-    ∷ (5, on_channel s x.channel MobileOff)
+    (1, on_request matched s (entry_desk x) (asked_in (entry_desk x) (read_telegram (telegram_in e))))
+    ∷ (2, on_channel s (entry_channel x) (cond (entry_on x) (PressOn (entry_desk x) (own_of s.desks (entry_desk x))) PressOff))
+    ∷ (3, on_channel s (entry_channel x) Cut)
+    ∷ (4, on_channel s (entry_channel x) (MobileOn (entry_base x) (number_in (entry_number x))))
+    ∷ (5, on_channel s (entry_channel x) MobileOff)
     ∷ (6, on_tick s)
     ∷ (7, on_plan (plan_in e))
     ∷ (8, on_handover s)
-    ∷ (9, on_channel s x.channel (Ring (called_place s.desks s.size.desks x.called) x.base (number_in x.number)))
-    ∷ (10, on_channel s x.channel Cancel)
+    ∷ (9, on_channel s (entry_channel x) (Ring (called_place s.desks s.size.desks (entry_called x)) (entry_base x) (number_in (entry_number x))))
+    ∷ (10, on_channel s (entry_channel x) Cancel)
     ∷ []
 
-unfoldable pub accepted_by : Bool → LineSet → List ℕ → Entry → Effect
-accepted_by matched s e x = pick x.kind (effect s s []) (ways matched s e x)
+unfoldable pub accepted_by : Bool → LineSet → List ℕ → ReadEntry → Effect
+accepted_by matched s e x = pick (entry_kind x) (effect s s []) (ways matched s e x)
 
-unfoldable pub accepted : LineSet → List ℕ → Entry → Effect
-accepted s e x = accepted_by (answers_in s x.desk (asked_in x.desk (read_telegram (telegram_in e)))) s e x
+unfoldable pub accepted : LineSet → List ℕ → ReadEntry → Effect
+accepted s e x = accepted_by (answers_in s (entry_desk x) (asked_in (entry_desk x) (read_telegram (telegram_in e)))) s e x

@@ -1,10 +1,8 @@
 -- Two theorems that ask much of a feed speak of something: isolation, of two feeds that differ in a mobile's number, talking or
 -- ringing, and the marked row of the ticks.
-use Rattle.std.specs.Prelude.{ℕ, List, [], ◌∷◌, ◌++◌, map, ◌≡◌, length, get_or, replicate}
+use Rattle.std.specs.Prelude.{ℕ, List, [], ◌∷◌, ◌++◌, map, ◌≡◌, length, get_or, replicate, None, Some}
 use Rattle.numerals.specs.Digits.{digits_of}
-use Rattle.channel.specs.declared.state.Arrival.TheVariants.{Absent}
 use Rattle.channel.specs.declared.state.Channel.{Channel}
-use Rattle.channel.specs.declared.state.Party.TheVariants.{By}
 use Rattle.set_state.specs.State.{new_set, no_channel}
 use Rattle.set_rules.specs.Feeds.{Outcome, Item, step_by, run, after, Seen, views}
 use Rattle.set_rules.specs.Spelling.{entry_of, lent, both_running, capture_entry, call_entry, ring_answer_entry}
@@ -57,7 +55,7 @@ pressed_channel = get_or (after new_set pressed_feed).channels 0 no_channel
 -- bytes (`Witness.ticks_met`).
 pub record TicksMet : Type 0 where
   pub one : (after new_set pressed_feed).size.channels ≡ 1
-  pub held : pressed_channel.holder ≡ By 0
-  pub alone : pressed_channel.arrival ≡ Absent
+  pub held : pressed_channel.holder ≡ Some 0
+  pub alone : pressed_channel.arrival ≡ None
   pub let_go : (step_by (after new_set pressed_feed) (lent (press_entry 0))).refusal ≡ 0
   pub taken : map (λ (o : Outcome). o.refusal) (run (step_by (after new_set pressed_feed) (lent (press_entry 0))).after (ticks_with (replicate 130 (replicate 64 0)))) ≡ replicate 130 0

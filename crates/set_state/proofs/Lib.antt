@@ -1,2 +1,3 @@
+mod Numbers
 mod Listeners
 pub mod Kept

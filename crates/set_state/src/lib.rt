@@ -5,4 +5,7 @@ mod desks;
 mod state;
 
 pub use desks::{desk_at, desk_place};
-pub use state::{Answer, Desk, Entry, LineSet, Link, LinkRequest, Reply, Request, Size};
+pub use state::{
+    Answer, Desk, Entry, LineSet, Link, LinkRequest, Refusal, Request, Size, bytes_written,
+    refusal_number,
+};

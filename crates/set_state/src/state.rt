@@ -1,12 +1,13 @@
 // The state of a line set, and what an entry asks of it.
 ghost use Rattle.std.specs.Prelude.{◌≡◌};
 ghost use Rattle.set_state.specs.State.{new_link, time_told, answered, no_desk, new_set};
+ghost use Rattle.set_state.specs.Entry.{number_of, refusal_in, count_in, desk_from, channel_from};
 
 use channel::{Channel, Event};
-use numerals::Digits;
-use telegram::{Number, RingAnswer};
+use telegram::{Number, Ring};
 
-// A desk's command link, by its phase: 1 waits for the time, 2 for the operation answer, 3 is running.
+// A desk's command link, by its phase: 1 waits for the time, 2 for the operation answer, 3 is running. A number and no enum: memory
+// that C sees may hold any there, and `plain_set::set_in` gives it on unchanged.
 #[derive(Clone, Copy)]
 pub struct Link {
     pub phase: u32,
@@ -62,7 +63,8 @@ pub struct Size {
     pub channels: u8,
 }
 
-// Desks and channels in the order of the plan. Those past the plan's size are there only to fill the arrays.
+// Desks and channels in the order of the plan. Those past the plan's size are there only to fill the arrays. `planned` stands beside
+// the size, and no Option around it: memory that C sees may hold any size without a plan, and `plain_set::set_in` gives it on unchanged.
 #[derive(Clone, Copy)]
 pub struct LineSet {
     pub channels: [Channel; 32],
@@ -90,19 +92,120 @@ impl LineSet {
     }
 }
 
-// What an entry's bytes ask for: its kind, and what its payload has. What a kind does not have is 0, and a telegram and a
-// plan stay in the bytes. A refusal other than 0 is 1, 2 or 3, and then all else is 0. `number` is a mobile's, `called` that of the
-// desk that it calls.
+// Why an entry is refused, in the order of the numbers (docs/REFERENCE.md, Refusals).
+#[derive(Clone, Copy, PartialEq, Eq)]
+pub enum Refusal {
+    Length,
+    Version,
+    Payload,
+    NoPlan,
+    AlreadyPlanned,
+    BadPlan,
+    UnknownDesk,
+    Header,
+    Identifier,
+    Body,
+    Phase,
+    NotEntitled,
+    WrongNumber,
+    NotHolder,
+    Again,
+    NoRoom,
+    CannotRing,
+}
+
+impl Refusal {
+    // The number that callers in other languages and listings have for it.
+    pub fn number(self) -> u8
+        ensures { result ≡ number_of self }
+    {
+        match self {
+            Refusal::Length => 1,
+            Refusal::Version => 2,
+            Refusal::Payload => 3,
+            Refusal::NoPlan => 4,
+            Refusal::AlreadyPlanned => 5,
+            Refusal::BadPlan => 6,
+            Refusal::UnknownDesk => 7,
+            Refusal::Header => 8,
+            Refusal::Identifier => 9,
+            Refusal::Body => 10,
+            Refusal::Phase => 11,
+            Refusal::NotEntitled => 12,
+            Refusal::WrongNumber => 13,
+            Refusal::NotHolder => 14,
+            Refusal::Again => 15,
+            Refusal::NoRoom => 16,
+            Refusal::CannotRing => 17,
+        }
+    }
+}
+
+// What an entry's bytes ask for. A telegram and a plan stay in the bytes. `number` is a mobile's, `called` that of the desk that it
+// calls.
 #[derive(Clone, Copy)]
-pub struct Entry {
-    pub refusal: u8,
-    pub kind: u8,
-    pub desk: u8,
-    pub channel: u8,
-    pub on: u8,
-    pub base: u8,
-    pub number: Digits,
-    pub called: Digits,
+pub enum Entry {
+    Telegram {
+        desk: u8,
+    },
+    Press {
+        desk: u8,
+        channel: u8,
+        on: bool,
+    },
+    Cut {
+        desk: u8,
+        channel: u8,
+    },
+    MobileOn {
+        channel: u8,
+        base: u8,
+        number: Option<u32>,
+    },
+    MobileOff {
+        channel: u8,
+    },
+    Tick,
+    Plan,
+    Handover,
+    MobileCall {
+        channel: u8,
+        base: u8,
+        number: Option<u32>,
+        called: Option<u32>,
+    },
+    MobileCancel {
+        channel: u8,
+    },
+}
+
+impl Entry {
+    // The desk that it comes from, 0 where it comes from none.
+    pub fn desk(self) -> u8
+        ensures { result ≡ desk_from self }
+    {
+        match self {
+            Entry::Telegram { desk } => desk,
+            Entry::Press { desk, .. } => desk,
+            Entry::Cut { desk, .. } => desk,
+            _ => 0,
+        }
+    }
+
+    // The channel that it names, 0 where it names none.
+    pub fn channel(self) -> u8
+        ensures { result ≡ channel_from self }
+    {
+        match self {
+            Entry::Press { channel, .. } => channel,
+            Entry::Cut { channel, .. } => channel,
+            Entry::MobileOn { channel, .. } => channel,
+            Entry::MobileOff { channel } => channel,
+            Entry::MobileCall { channel, .. } => channel,
+            Entry::MobileCancel { channel } => channel,
+            _ => 0,
+        }
+    }
 }
 
 // What a desk says of its link.
@@ -125,22 +228,34 @@ pub enum Request {
         event: Event,
     },
     // The answer to a ring, as the telegram has it.
-    AnswersRing(RingAnswer),
+    AnswersRing(Ring),
     // A telegram that no desk sends.
     Foreign,
 }
 
-// The answer to an entry: the set after it, the bytes written, and the refusal number, 0 if it was accepted.
+// The answer to an entry: the set after it, and the bytes written, or why it was refused.
 #[derive(Clone, Copy)]
 pub struct Answer {
     pub set: LineSet,
-    pub count: usize,
-    pub refusal: u8,
+    pub reply: Result<usize, Refusal>,
 }
 
-// What an entry is answered with where the set is lent: the bytes written, and the refusal number.
-#[derive(Clone, Copy)]
-pub struct Reply {
-    pub count: usize,
-    pub refusal: u8,
+// The refusal number of a reply, 0 if the entry was accepted.
+pub fn refusal_number(reply: Result<usize, Refusal>) -> u8
+    ensures { result ≡ refusal_in reply }
+{
+    match reply {
+        Ok(_) => 0,
+        Err(refusal) => refusal.number(),
+    }
+}
+
+// The bytes that a reply says were written, 0 if the entry was refused.
+pub fn bytes_written(reply: Result<usize, Refusal>) -> usize
+    ensures { result ≡ count_in reply }
+{
+    match reply {
+        Ok(count) => count,
+        Err(_) => 0,
+    }
 }

@@ -1,18 +1,17 @@
 // What a desk's telegram asks of the set. Only here is a whole message taken apart.
-ghost use Rattle.std.specs.Prelude.{◌≡◌, cond, ℕ, eqb};
+ghost use Rattle.std.specs.Prelude.{◌≡◌, cond, eqb, Err};
 ghost use Rattle.telegram.specs.Telegram.{read_telegram};
-ghost use Rattle.telegram.specs.declared.message.Reading.TheVariants.{Refused};
+ghost use Rattle.set_state.specs.Entry.{number_of, numbered};
 ghost use Rattle.set_rules.specs.Refusals.{asked_by};
 ghost use Rattle.telegram_requests.specs.Asking.{code_of, asking, unread_as, telegram_asked};
 
 use channel::Event;
-use set_state::LinkRequest;
-use telegram::{Message, Number, Reading, RingAnswer};
+use set_state::{LinkRequest, Refusal};
+use telegram::{Message, Number, ReadError, Ring, Telegram};
 
-// What an entry asks, or its refusal so far: 1 to 4, 7 to 11.
+// What an entry asks.
 #[derive(Clone, Copy)]
 pub enum Asked {
-    Refusal(u8),
     OfLink(LinkRequest),
     OfLine(LineRequest),
 }
@@ -27,7 +26,7 @@ pub enum LineRequest {
         event: Event,
     },
     // The answer to a ring, as the telegram has it.
-    AnswersRing(RingAnswer),
+    AnswersRing(Ring),
 }
 
 // The code of the channel that is asked about.
@@ -56,88 +55,82 @@ fn ordered(d: u8, order: u32) -> Event
 }
 
 // What desk d asks by a message, if a desk sends it.
-fn asked_by(d: u8, message: Message) -> Asked
-    ensures { result ≡ asking (asked_by d message) }
+fn asked_by(d: u8, message: Message) -> Result<Asked, Refusal>
+    ensures { numbered result ≡ asking (asked_by d message) }
 {
     match message {
-        Message::TimeNotice(m) => Asked::OfLink(LinkRequest::TellsTime),
-        Message::RingAnswer(m) => Asked::OfLine(LineRequest::AnswersRing(m)),
-        Message::OperationAnswer(m) => Asked::OfLink(LinkRequest::TellsState { state: m.state }),
-        Message::TimeRequest => Asked::Refusal(9),
-        Message::BaseArrival(m) => Asked::Refusal(9),
-        Message::RingNotice(m) => Asked::Refusal(9),
-        Message::AnswerReply(m) => Asked::Refusal(9),
-        Message::OperationRequest => Asked::Refusal(9),
-        Message::Call(m) => Asked::Refusal(9),
-        Message::CallerNotice(m) => Asked::Refusal(9),
-        Message::CallResult(m) => Asked::Refusal(9),
+        Message::TimeNotice(m) => Ok(Asked::OfLink(LinkRequest::TellsTime)),
+        Message::RingAnswer(m) => Ok(Asked::OfLine(LineRequest::AnswersRing(m))),
+        Message::OperationAnswer(m) => Ok(Asked::OfLink(LinkRequest::TellsState {
+            state: m.state,
+        })),
         Message::CaptureRequest(m) => {
             let number = m.number;
             let event = ordered(d, m.order);
-            Asked::OfLine(LineRequest::OnChannel {
+            Ok(Asked::OfLine(LineRequest::OnChannel {
                 code: m.channel,
                 number,
                 event,
-            })
+            }))
         }
-        Message::CaptureReply(m) => Asked::Refusal(9),
-        Message::CaptureState(m) => Asked::Refusal(9),
+        _ => Err(Refusal::Identifier),
     }
 }
 
 // A wrong code is 8 and an identifier that no desk sends 9, whatever the reader found in the body.
-fn unread(code: u32, number: u32, seen: u32, identifier: u32) -> u8
-    ensures { result ≡ unread_as code (Refused number seen identifier) }
+fn unread(code: u32, error: ReadError) -> Refusal
+    ensures { number_of result ≡ unread_as code (Err error) }
 {
-    if number == 8 {
-        return 8;
-    }
-    if seen != code {
-        return 8;
-    }
-    if number == 9 {
-        return 9;
-    }
-    match identifier {
-        550411 => 10,
-        550419 => 10,
-        550421 => 10,
-        550600 => 10,
-        _ => 9,
+    match error {
+        ReadError::Header => Refusal::Header,
+        ReadError::Identifier {
+            code: seen,
+            identifier,
+        } => {
+            if seen != code {
+                Refusal::Header
+            } else {
+                Refusal::Identifier
+            }
+        }
+        ReadError::Body {
+            code: seen,
+            identifier,
+        } => {
+            if seen != code {
+                return Refusal::Header;
+            }
+            match identifier {
+                550411 => Refusal::Body,
+                550419 => Refusal::Body,
+                550421 => Refusal::Body,
+                550600 => Refusal::Body,
+                _ => Refusal::Identifier,
+            }
+        }
     }
 }
 
 // What the telegram of desk d asks, whose code this is.
-pub fn read_request(d: u8, telegram: &[u8], code: u32) -> Asked
-    ensures { result ≡ telegram_asked d code (read_telegram telegram.now) }
+pub fn read_request(d: u8, telegram: &[u8], code: u32) -> Result<Asked, Refusal>
+    ensures { numbered result ≡ telegram_asked d code (read_telegram telegram.now) }
 {
     let reading = telegram_reader::read(telegram);
-    let Reading::Telegram {
-        code: seen,
-        message,
-    } = reading
-    else {
-        return unread_request(code, reading);
+    let Ok(read) = reading else {
+        return Err(unread_request(code, reading));
     };
-    if seen != code {
-        return Asked::Refusal(8);
+    if read.code != code {
+        return Err(Refusal::Header);
     }
-    asked_by(d, message)
+    asked_by(d, read.message)
 }
 
-// What a telegram that does not read asks: nothing.
-fn unread_request(code: u32, reading: Reading) -> Asked
-    ensures { (n c i d : ℕ) → reading ≡ Refused n c i → result ≡ telegram_asked d code reading }
+// Why a telegram that does not read asks nothing.
+fn unread_request(code: u32, reading: Result<Telegram, ReadError>) -> Refusal
+    ensures { (e : ReadError) → reading ≡ Err e → number_of result ≡ unread_as code reading }
 {
     match reading {
-        Reading::Telegram {
-            code: seen,
-            message,
-        } => Asked::Refusal(8),
-        Reading::Refused {
-            number,
-            code: seen,
-            identifier,
-        } => Asked::Refusal(unread(code, number, seen, identifier)),
+        Ok(_) => Refusal::Header,
+        Err(error) => unread(code, error),
     }
 }

@@ -4,7 +4,6 @@ use Prim.Native.Nat.{ℕ}
 use mathlib.Core.Path.{ap, ◌∙◌}
 use Rattle.line_rules.specs.Rules.{happens}
 use Rattle.sends.specs.Scripts.{heard}
-use borrow.Author.Rules.{rules}
 use Rattle.changes.proofs.change.moved.Goals as goal
 
 pub returns : goal.returns

@@ -11,14 +11,14 @@ use Rattle.set_state.specs.State.{with_channels}
 use Rattle.set_rules.specs.Records.{delivered, space_of}
 use Rattle.set_rules.specs.SetRules.{Effect}
 use Rattle.set_rules.specs.Feeds.{emit}
+use Rattle.set_state.specs.declared.state.Refusal.TheVariants.{NoRoom}
 use Rattle.set_rules.proofs.Kept.{even_sends, space-length}
 use Rattle.changes.specs.Changes.{set_with}
 use Rattle.changes.proofs.Heard.{same-space, same-records}
 use Rattle.set_rules.specs.RecordLaws.{accepted_with}
-use Rattle.set_rules.proofs.Kept.{gives_as, no_room}
-use Rattle.changes.proofs.Changing.{refused, moved_at, moved_at_lem}
+use Rattle.set_rules.proofs.Kept.{gives_as, left_as_was, no_room}
+use Rattle.changes.proofs.Changing.{moved_at, moved_at_lem}
 use Rattle.records.proofs.Kept.{emitted}
-use borrow.Author.Rules.{rules}
 use Rattle.changes.proofs.change.on_channel.Goals as goal
 
 pub returns-then-buffer-need : goal.returns-then-buffer-need
@@ -29,7 +29,7 @@ returns-then-buffer-need c = λ ch planned cs k place w.
     let f = moved_at s place a.event a.c in
     let total : c.space-need.result ≡ space_of f.sent = c.space-need.ensures.0 a.desks a.c.code ∙ same-space a.desks a.c.code _ _ c.moved-m.ensures.1 in
     gives_as (ap (λ (g : Effect). emit s g (length b)) (moved_at_lem s ch place a.event a.c w))
-    (no_room s b f (omega (arith, total, c.if-buffer-need.true)) (refused s place a.c w.at b 16 c.refuse.ensures))
+    (no_room s b f (omega (arith, total, c.if-buffer-need.true)) (left_as_was s NoRoom b))
 
 pub put-requires : goal.put-requires
 put-requires c =

@@ -5,7 +5,6 @@ use mathlib.Core.Path.{refl, ap, ◌∙◌}
 use Rattle.channel.specs.declared.state.Event.TheVariants.{RingAnswer}
 use Rattle.set_rules.specs.SetRules.{answers_ring}
 use Rattle.set_state.specs.declared.state.Desk.{Desk}
-use borrow.Author.Rules.{rules}
 use Rattle.changes.proofs.line.event_of.Goals as goal
 
 pub returns-in-OnChannel : goal.returns-in-OnChannel

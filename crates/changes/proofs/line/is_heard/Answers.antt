@@ -6,7 +6,6 @@ use mathlib.Core.Path.{◌≡◌, ap₂, ◌∙◌}
 use borrow.Enum.Refused.{opened}
 use types.Run.{miss}
 use Rattle.channel.specs.State.{is_in}
-use borrow.Author.Rules.{rules}
 use Rattle.changes.proofs.line.is_heard.Goals as goal
 
 pub returns-in-Ring : goal.returns-in-Ring

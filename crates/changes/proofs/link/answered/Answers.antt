@@ -12,7 +12,6 @@ use Rattle.set_state.specs.declared.state.Link.{Link}
 use Rattle.changes.specs.Changes.{set_with}
 use Rattle.set_rules.specs.RecordLaws.{accepted_with}
 use Rattle.records.proofs.Kept.{emitted}
-use borrow.Author.Rules.{rules}
 use Rattle.changes.proofs.link.answered.Goals as goal
 
 pub returns : goal.returns

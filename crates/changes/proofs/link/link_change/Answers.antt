@@ -7,7 +7,6 @@ use Rattle.set_rules.specs.Feeds.{emit}
 use Rattle.set_state.specs.declared.state.LinkRequest.{LinkRequest}
 use Rattle.changes.specs.Changes.{set_with}
 use Rattle.set_rules.proofs.Kept.{gives_as}
-use borrow.Author.Rules.{rules}
 use Rattle.changes.proofs.link.link_change.Goals as goal
 
 pub returns-in-TellsTime : goal.returns-in-TellsTime

@@ -15,9 +15,9 @@ use Rattle.set_state.specs.declared.state.Desk.{Desk}
 use Rattle.set_state.specs.declared.state.Link.{Link}
 use Rattle.changes.specs.Changes.{set_with}
 use Rattle.set_rules.specs.RecordLaws.{accepted_with}
-use Rattle.set_rules.proofs.Kept.{no_room}
+use Rattle.set_state.specs.declared.state.Refusal.TheVariants.{NoRoom}
+use Rattle.set_rules.proofs.Kept.{left_as_was, no_room}
 use Rattle.records.proofs.Kept.{emitted}
-use borrow.Author.Rules.{rules}
 use Rattle.changes.proofs.link.time_told.Goals as goal
 
 pub returns-then-buffer-need : goal.returns-then-buffer-need
@@ -26,7 +26,7 @@ returns-then-buffer-need c = λ planned n cs k.
     let s = set_with planned a.desks n cs k in
     let f = time_taken s a.d in
     let total : c.space_to-need.result ≡ space_of f.sent = c.space_to-need.ensures.0 a.desks ∙ ap (λ (m : ℕ). space_of (delivery a.desks m OperationRequest ∷ [])) c.only-recipients.ensures in
-    no_room s a.buffer.now f (omega (arith, total, c.if-buffer-need.true)) (record { answer = refl; bytes = refl })
+    no_room s a.buffer.now f (omega (arith, total, c.if-buffer-need.true)) (left_as_was s NoRoom a.buffer.now)
 
 pub put_to-requires : goal.put_to-requires
 put_to-requires c =

@@ -3,7 +3,7 @@
 use Prim.Native.Nat.{ℕ, ◌+◌, ◌≤◌}
 use mathlib.Core.List.{List}
 use mathlib.Core.Bool.{true, ◌&&◌}
-use mathlib.Core.Path.{◌≡◌, sym, ◌∙◌}
+use mathlib.Core.Path.{refl, ◌≡◌, sym, ◌∙◌}
 use native.Mathlib.Omega.{arith}
 use lib.Dec.{eqb, leb}
 use lib.ListN.{length}
@@ -20,7 +20,7 @@ long e h = leb-true 4 (length e) (both (leb 4 (length e)) (eqb (word e 0 + 2) (l
 
 pub returns-then-not-is_measured : goal.returns-then-not-is_measured
 unfolding read_entry
-returns-then-not-is_measured c = rw (sym c.is_measured.ensures ∙ c.if-not-is_measured.true) c.refused.ensures
+returns-then-not-is_measured c = rw (sym c.is_measured.ensures ∙ c.if-not-is_measured.true) refl
 
 pub bounds-entry-2 : goal.bounds-entry-2
 bounds-entry-2 c = omega (arith, long c.args.entry.now (sym c.is_measured.ensures ∙ c.if-not-is_measured.false))
@@ -28,7 +28,7 @@ bounds-entry-2 c = omega (arith, long c.args.entry.now (sym c.is_measured.ensure
 pub returns-then-other : goal.returns-then-other
 unfolding read_entry
 returns-then-other c =
-    rw (sym c.is_measured.ensures ∙ c.if-not-is_measured.false, ne_eqb _ _ c.if-other.true) c.refused-then-other.ensures
+    rw (sym c.is_measured.ensures ∙ c.if-not-is_measured.false, ne_eqb _ _ c.if-other.true) refl
 
 pub bounds-entry-3 : goal.bounds-entry-3
 bounds-entry-3 c = omega (arith, long c.args.entry.now (sym c.is_measured.ensures ∙ c.if-not-is_measured.false))

@@ -1,31 +1,37 @@
 -- `requests::request::event_of` meets its contract, kind by kind.
 -- Assumes nothing.
 use mathlib.Core.Path.{refl, ap}
-use borrow.Author.Tests.{eq-eqb, ne_eqb}
 use Rattle.channel.specs.declared.state.Event.TheVariants.{MobileOn}
 use Rattle.telegram.specs.declared.message.Number.{Number}
-use borrow.Author.Rules.{rules}
+use Rattle.set_rules.specs.Entries.{entry_kind, entry_desk, entry_on, entry_base, entry_number, entry_called}
+use Rattle.requests.proofs.Asked.{off_else}
 use Rattle.requests.proofs.request.event_of.Goals as goal
 
-pub returns-then-x-eq1 : goal.returns-then-x-eq1
-returns-then-x-eq1 c = simp (c.in-2.is, eq-eqb _ _ c.if-x-eq1.true) refl
+pub returns-then-on : goal.returns-then-on
+unfolding entry_kind entry_desk entry_on
+returns-then-on c = rw (c.in-Press.is, c.if-on.true) refl
 
-pub returns-else-x-eq1 : goal.returns-else-x-eq1
-returns-else-x-eq1 c = simp (c.in-2.is, ne_eqb _ _ c.if-x-eq1.false) refl
+pub returns-else-on : goal.returns-else-on
+unfolding entry_kind entry_on
+returns-else-on c = rw (c.in-Press.is, c.if-on.false) refl
 
-pub returns-in-3 : goal.returns-in-3
-returns-in-3 c = simp c.in-3.is refl
+pub returns-in-Cut : goal.returns-in-Cut
+unfolding entry_kind
+returns-in-Cut c = rw c.in-Cut.is refl
 
-pub returns-in-4 : goal.returns-in-4
-returns-in-4 c = simp c.in-4.is (ap (λ (k : Number). MobileOn c.args.x.base k) c.number_in-number.ensures)
+pub returns-in-MobileOn : goal.returns-in-MobileOn
+unfolding entry_kind entry_base entry_number
+returns-in-MobileOn c = rw c.in-MobileOn.is (ap (λ (k : Number). MobileOn c.in-MobileOn.base k) c.number_in-number.ensures)
 
-pub returns-in-9 : goal.returns-in-9
-returns-in-9 c = simp c.in-9.is c.ring_of.ensures
+pub returns-in-MobileCall : goal.returns-in-MobileCall
+unfolding entry_kind entry_base entry_number entry_called
+returns-in-MobileCall c = rw c.in-MobileCall.is c.ring_of.ensures
 
-pub returns-in-10 : goal.returns-in-10
-returns-in-10 c = simp c.in-10.is refl
+pub returns-in-MobileCancel : goal.returns-in-MobileCancel
+unfolding entry_kind
+returns-in-MobileCancel c = rw c.in-MobileCancel.is refl
 
 pub returns-in_default : goal.returns-in_default
+unfolding entry_kind
 returns-in_default c =
-    let r = c.in_default.in_default-own.rest in
-    simp (ne_eqb _ _ r.0.0.0.0.1, ne_eqb _ _ r.0.0.0.1, ne_eqb _ _ r.0.0.1, ne_eqb _ _ r.0.1, ne_eqb _ _ r.1) refl
+    off_else c.args.desks c.args.n c.args.own c.args.x c.in_default.not-Press c.in_default.not-Cut c.in_default.not-MobileOn c.in_default.not-MobileCall c.in_default.not-MobileCancel

@@ -1,11 +1,7 @@
 -- `requests::request::in_phase` meets its contract, arm by arm.
 -- Assumes nothing.
 use mathlib.Core.Path.{refl, ◌∙◌}
-use borrow.Author.Rules.{rules}
 use Rattle.requests.proofs.request.in_phase.Goals as goal
-
-pub returns-in-Refusal : goal.returns-in-Refusal
-returns-in-Refusal c = rw c.in-Refusal.is refl
 
 pub returns-in-OfLink : goal.returns-in-OfLink
 returns-in-OfLink c = c.if_ready.ensures ∙ rw (c.in-OfLink.is, c.link_phase.ensures) refl
