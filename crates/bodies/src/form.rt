@@ -5,23 +5,21 @@ ghost use Rattle.bodies.specs.Bodies.{form_of};
 
 use super::body::Body;
 use channel::Notice;
-use telegram::{
-    AnswerReply, BaseArrival, Call, CallResult, CallerNotice, CaptureReply, CaptureState, Number,
-    RingNotice,
-};
+use telegram::{BaseArrival, Call, CallResult, CallerNotice, CaptureState, Number, Reply, Ring};
 
 // The type of a call to one desk.
-const INDIVIDUAL: u32 = 3;
+const INDIVIDUAL: u32 = channel::Call::INDIVIDUAL as u32;
 
+// A function for each notice: in one match, a field a line, they would be a hundred lines.
 fn base_arrival_form(ch: u8, kind: u8, base: u8, number: Number, order: u8) -> [u8; 46]
     ensures { result ≡ form_of (Body.About ch (Notice.BaseArrival kind base number order)) }
 {
     let m = BaseArrival {
-        channel: ch as u32,
-        base: base as u32,
-        kind: kind as u32,
+        channel: u32::from(ch),
+        base: u32::from(base),
+        kind: u32::from(kind),
         number,
-        order: order as u32,
+        order: u32::from(order),
     };
     telegram_forms::base_arrival_form(m)
 }
@@ -38,13 +36,13 @@ fn call_form(
     ensures { result ≡ form_of (Body.About ch (Notice.Call kind direction base source start reason)) }
 {
     let m = Call {
-        channel: ch as u32,
-        base: base as u32,
-        kind: kind as u32,
+        channel: u32::from(ch),
+        base: u32::from(base),
+        kind: u32::from(kind),
         media: 0,
-        direction: direction as u32,
-        start: start as u32,
-        reason: reason as u32,
+        direction: u32::from(direction),
+        start: u32::from(start),
+        reason: u32::from(reason),
         source,
         destination: Number::NONE,
     };
@@ -56,12 +54,12 @@ fn press_notice_form(ch: u8, kind: u8, order: u8) -> [u8; 46]
     ensures { result ≡ form_of (Body.About ch (Notice.PressNotice kind order)) }
 {
     let m = CallerNotice {
-        channel: ch as u32,
+        channel: u32::from(ch),
         base: 999,
-        kind: kind as u32,
-        direction: 1,
+        kind: u32::from(kind),
+        direction: u32::from(channel::Call::DOWN),
         number: Number::NONE,
-        order: order as u32,
+        order: u32::from(order),
     };
     telegram_forms::caller_notice_form(m)
 }
@@ -70,22 +68,22 @@ fn caller_notice_form(ch: u8, kind: u8, base: u8, number: Number, order: u8) -> 
     ensures { result ≡ form_of (Body.About ch (Notice.CallerNotice kind base number order)) }
 {
     let m = CallerNotice {
-        channel: ch as u32,
-        base: base as u32,
-        kind: kind as u32,
-        direction: 2,
+        channel: u32::from(ch),
+        base: u32::from(base),
+        kind: u32::from(kind),
+        direction: u32::from(channel::Call::UP),
         number,
-        order: order as u32,
+        order: u32::from(order),
     };
     telegram_forms::caller_notice_form(m)
 }
 
-fn capture_reply_form(ch: u8, res: u8) -> [u8; 46]
-    ensures { result ≡ form_of (Body.About ch (Notice.CaptureReply res)) }
+fn capture_reply_form(ch: u8, outcome: u8) -> [u8; 46]
+    ensures { result ≡ form_of (Body.About ch (Notice.CaptureReply outcome)) }
 {
-    let m = CaptureReply {
-        channel: ch as u32,
-        result: res as u32,
+    let m = Reply {
+        channel: u32::from(ch),
+        result: u32::from(outcome),
     };
     telegram_forms::capture_reply_form(m)
 }
@@ -95,9 +93,9 @@ fn capture_state_form(ch: u8, holder: u8, state: u8) -> [u8; 46]
     ensures { result ≡ form_of (Body.About ch (Notice.CaptureState holder state)) }
 {
     let m = CaptureState {
-        channel: ch as u32,
+        channel: u32::from(ch),
         number: Number::NONE,
-        state: state as u32,
+        state: u32::from(state),
     };
     telegram_forms::capture_state_form(m)
 }
@@ -107,8 +105,8 @@ fn ring_notice_form(ch: u8, number: Number) -> [u8; 46]
     ensures { result ≡ form_of (Body.About ch (Notice.RingNotice number)) }
 {
     let unfilled = Number::NONE;
-    let m = RingNotice {
-        channel: ch as u32,
+    let m = Ring {
+        channel: u32::from(ch),
         kind: INDIVIDUAL,
         source: number,
         destination: unfilled,
@@ -116,25 +114,25 @@ fn ring_notice_form(ch: u8, number: Number) -> [u8; 46]
     telegram_forms::ring_notice_form(m)
 }
 
-fn answer_reply_form(ch: u8, res: u8) -> [u8; 46]
-    ensures { result ≡ form_of (Body.About ch (Notice.AnswerReply res)) }
+fn answer_reply_form(ch: u8, outcome: u8) -> [u8; 46]
+    ensures { result ≡ form_of (Body.About ch (Notice.AnswerReply outcome)) }
 {
-    let m = AnswerReply {
-        channel: ch as u32,
-        result: res as u32,
+    let m = Reply {
+        channel: u32::from(ch),
+        result: u32::from(outcome),
     };
     telegram_forms::answer_reply_form(m)
 }
 
 // Its destination is the called desk's own number.
-fn call_result_form(ch: u8, res: u8) -> [u8; 46]
-    ensures { result ≡ form_of (Body.About ch (Notice.CallResult res)) }
+fn call_result_form(ch: u8, outcome: u8) -> [u8; 46]
+    ensures { result ≡ form_of (Body.About ch (Notice.CallResult outcome)) }
 {
     let unfilled = Number::NONE;
     let m = CallResult {
-        channel: ch as u32,
+        channel: u32::from(ch),
         kind: INDIVIDUAL,
-        result: res as u32,
+        result: u32::from(outcome),
         destination: unfilled,
     };
     telegram_forms::call_result_form(m)

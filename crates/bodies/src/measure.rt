@@ -25,7 +25,7 @@ fn space_of(recipients: u8, size: usize) -> usize
     requires { size ≤ 51 }
     ensures { (result ≡ ones_in 8 recipients * size) × (result ≤ 408) }
 {
-    u8::count_ones(recipients) as usize * size
+    recipients.count_ones() as usize * size
 }
 
 // The space of one body to the desks of a set.
@@ -40,12 +40,8 @@ pub fn space(sends: [Send; 7]) -> usize
     ensures { ((ds : List Desk) (ch : ℕ) → result ≡ space_of (delivered ds ch sends)) × (result ≤ 2856) }
 {
     let mut sum = 0;
-    let mut k = 0;
-    while k < 7 {
-        let s = sends[k];
-        let notice = s.notice;
-        sum += space_of(s.recipients, shape::notice_size(notice));
-        k += 1;
+    for s in sends {
+        sum += space_of(s.recipients, shape::notice_size(s.notice));
     }
     sum
 }

@@ -20,6 +20,13 @@ pub enum Shape {
     Telegram { own: Own, size: usize },
 }
 
+impl Shape {
+    // What a contact tells: that a desk's press is answered, or that talk comes in.
+    pub const PRESS_ANSWER: u8 = 1;
+
+    pub const INCOMING: u8 = 2;
+}
+
 fn plain(size: usize) -> Shape
     ensures { result ≡ Shape.Telegram Own.Nobody size }
 {
@@ -60,12 +67,12 @@ fn notice_shape(channel: u8, notice: Notice) -> Shape
     let size = notice_size(notice);
     match notice {
         Notice::PressAnswer { on } => Shape::Contact {
-            kind: 1,
+            kind: Shape::PRESS_ANSWER,
             channel,
             on,
         },
         Notice::Incoming { on } => Shape::Contact {
-            kind: 2,
+            kind: Shape::INCOMING,
             channel,
             on,
         },

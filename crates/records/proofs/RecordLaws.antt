@@ -1,26 +1,25 @@
 -- One record: its head and what follows, and the desks of a set one by one.
 -- Assumes nothing.
-use Prim.Native.Nat.{ℕ, zero, suc, ◌+◌, ◌-◌, ◌*◌, ◌/◌, ◌%◌, ◌^◌, ◌≤◌, ◌<◌}
+use Prim.Native.Nat.{ℕ, zero, suc, ◌+◌, ◌-◌, ◌/◌, ◌%◌, ◌≤◌, ◌<◌}
 use mathlib.Core.List.{List, [], ◌∷◌, ◌++◌, append-nil}
 use mathlib.Core.Path.{◌≡◌, refl, sym, ap, ◌∙◌}
-use native.Mathlib.Nat.{pow-suc}
 use native.Mathlib.Numerals.{add-one}
 use native.Mathlib.Omega.{arith}
 use lib.ListN.{length, take, drop, get_or}
-use lib.Seq.{sets, length-sets}
+use lib.Seq.{sets}
 use borrow.Author.Tests.{eq-eqb, ne_eqb}
 use Rattle.numerals.specs.Digits.{digits_of}
 use Rattle.telegram.specs.Telegram.{size_of, num, telegram_of}
 use Rattle.telegram.specs.declared.message.Number.{Number}
 use Rattle.telegram.proofs.Kept.{length-telegram}
-use Rattle.telegram_forms.proofs.Kept.{length-padded, form_put}
+use Rattle.telegram_forms.proofs.Kept.{form_put}
 use Rattle.line_rules.specs.Notices.{Content, telegram, contact}
 use Rattle.set_state.specs.State.{no_desk, own_of}
 use Rattle.set_rules.specs.Records.{Delivery, record_for, record_size, to_each, records_of}
 use Rattle.set_state.specs.declared.state.Desk.{Desk}
 use Rattle.set_rules.specs.RecordLaws.{without_lowest}
 use Rattle.set_rules.proofs.Kept.{halves_half, in_halves}
-use Rattle.bodies.specs.Bodies.{body_for, delivery, content_form, form_of, numbered_for}
+use Rattle.bodies.specs.Bodies.{body_for, delivery, form_of, numbered_for}
 use Rattle.bodies.specs.declared.body.Body.{Body}
 use Rattle.bodies.specs.declared.shape.Own.{Own}
 use Rattle.bodies.specs.Promises.{AsTelegram}
@@ -43,9 +42,6 @@ module _ {b : Body} {o : Own} {size : ℕ} (t : AsTelegram b o size) where
       → Split (record_for ds d (body_for d (own_of ds d) b)) (head_bytes (size - 2) d 1) (rest_bytes desk.code (body_for d desk.number b))
   parts ds d e = record { parts = rw (e, size_is t d (own_of ds d)) (parts_of ds d (body_for d (own_of ds d) b) ∙ ap (λ (k : ℕ). head_bytes (record_size (body_for d (own_of ds d) b) - 2) d k ++ rest_bytes (get_or ds d no_desk).code (body_for d (own_of ds d) b)) (ap kind_of (t.content d (own_of ds d)))) }
 
-  pub form_long : {form : List ℕ} → form ≡ form_of b → length form ≡ 46
-  form_long e = ap length (e ∙ ap content_form (t.content 0 (num 0))) ∙ length-padded _
-
   -- the form, put under a code
   pub formed : (c : ℕ) (part : List ℕ) {form after : List ℕ} → form ≡ form_of b → size ≤ 5 + length part
       → after ≡ sets (take (size - 5) form ++ drop (size - 5) part) 6 (digits_of 4 c)
@@ -54,11 +50,6 @@ module _ {b : Body} {o : Own} {size : ℕ} (t : AsTelegram b o size) where
       let n : size - 5 ≡ size_of (t.says 0 (num 0)) = omega (arith, t.sized 0 (num 0)) in
       let fits : size_of (t.says 0 (num 0)) ≤ length part = omega (arith, h, t.sized 0 (num 0)) in
       p ∙ rw (n, e, t.content 0 (num 0)) (form_put c (t.says 0 (num 0)) part fits)
-
-  pub formed-long : (c : ℕ) (part : List ℕ) {form after : List ℕ} → form ≡ form_of b → size ≤ 5 + length part
-      → after ≡ sets (take (size - 5) form ++ drop (size - 5) part) 6 (digits_of 4 c)
-      → length after ≡ length part
-  formed-long c part e h p = ap length (formed c part e h p) ∙ length-sets part 0 (telegram_of c (t.says 0 (num 0)))
 
   -- and with the own number of a desk
   pub told : (c d : ℕ) (own : Number) (part : List ℕ) {after : List ℕ} → after ≡ sets part 0 (telegram_of c (t.says 0 (num 0)))
@@ -75,17 +66,6 @@ one-taken ds d m b h = rw (eq-eqb _ _ h) refl
 pub one_left : (ds : List Desk) (d m : ℕ) (b : Body) → (m % 2 ≡ 1 → ⊥) → to_one ds d m b ≡ []
 unfolding to_one
 one_left ds d m b h = rw (ne_eqb _ _ h) refl
-
--- a set that is not empty from place d on has a place there, and half of it is a set from the next place on
-pub place-left : (d m : ℕ) → 0 < m → m < 2 ^ (8 - d) → (d < 8) × (m / 2 < 2 ^ (8 - (d + 1)))
-place-left d m p h = go (8 - d) refl h
-  where
-    go : (k : ℕ) → 8 - d ≡ k → m < 2 ^ k → (d < 8) × (m / 2 < 2 ^ (8 - (d + 1)))
-    go zero e h = absurd (omega arith)
-    go (suc k) e h =
-        let j : 8 - (d + 1) ≡ k = omega arith in
-        let q : m < 2 ^ k * 2 = rw pow-suc at h in
-        (omega arith, rw j (omega arith))
 
 -- the next desk, and those after it
 pub each_turn : (ds : List Desk) (d m r : ℕ) (b : Body) → d < 8 → m ≡ without_lowest d r

@@ -10,7 +10,7 @@ use lib.Seq.{sets-eq, drop-drop, length-sets}
 use Rattle.laws.proofs.Lists.{sets_append, part_to_end}
 use Rattle.telegram.specs.Telegram.{over}
 use Rattle.records.specs.Emitting.{written}
-use Rattle.records.specs.Promises.{NoneWritten, Writing, Split, Start, Next, RoomLeft, AllPut}
+use Rattle.records.specs.Promises.{NoneWritten, Split, Start, Next, RoomLeft, AllPut}
 
 -- one run of bytes after another is the run of both
 pub written-append : (l : List ℕ) (i : ℕ) (xs ys : List ℕ) → written l i (xs ++ ys) ≡ written (written l i xs) (i + length xs) ys

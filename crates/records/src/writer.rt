@@ -1,14 +1,20 @@
-// Records written into a lent buffer.
+// Records written into a lent buffer. `buffer` and `at` stay two parameters: `put` and `put_to` promise by them (`PutAt`).
 ghost use Rattle.std.specs.Prelude.{◌≡◌, [], ◌∷◌, ◌++◌, ◌+◌, ◌-◌, ◌≤◌, length};
 ghost use Rattle.set_state.specs.State.{own_of};
 ghost use Rattle.set_rules.specs.Records.{record_for, records_of, delivered};
-ghost use Rattle.bodies.specs.Bodies.{body_for, delivery, delivery_of, shape_of, form_of, own_end, numbered_for};
+ghost use Rattle.bodies.specs.Bodies.{body_for, delivery, delivery_of, own_end, numbered_for};
 ghost use Rattle.records.specs.Emitting.{written, PutAt, head_bytes, rest_bytes, to_one};
 
+use super::prepared::Prepared;
 use bodies::{Body, Own, Shape};
 use channel::Send;
 use set_state::Desk;
 use telegram::Number;
+
+// What kind of content a record has.
+const TELEGRAM: u8 = 1;
+
+const CONTACT: u8 = 2;
 
 // The head of a record of so many bytes: how many follow the length, the version, the desk, and what kind of content it is.
 fn put_head(buffer: &mut [u8], size: usize, d: u8, kind: u8)
@@ -27,7 +33,7 @@ fn put_contact(buffer: &mut [u8], d: u8, kind: u8, channel: u8, on: u8)
     requires { 8 ≤ length buffer.old }
     ensures { buffer.new ≡ written buffer.old 0 (head_bytes 6 d 2 ++ (kind ∷ channel ∷ on ∷ [])) }
 {
-    put_head(buffer, 8, d, 2);
+    put_head(buffer, 8, d, CONTACT);
     buffer[5] = kind;
     buffer[6] = channel;
     buffer[7] = on;
@@ -49,102 +55,68 @@ fn put_own(part: &mut [u8], own: Own, d: u8, number: Number)
     }
 }
 
-// The telegram of a body to desk d, from its form.
-fn put_telegram(part: &mut [u8], desk: Desk, d: u8, body: Body, own: Own, size: usize, form: &[u8])
-    requires { (shape_of body ≡ Shape.Telegram own size) × (form.now ≡ form_of body) × (size ≤ 5 + length part.old) }
-    ensures { part.new ≡ written part.old 0 (rest_bytes desk.code (body_for d desk.number body)) }
-{
-    telegram_copies::put_form(form, size - 5, desk.code, part);
-    put_own(part, own, d, desk.number);
-}
+impl Prepared {
+    // The telegram to desk d.
+    fn put_telegram(&self, part: &mut [u8], desk: Desk, d: u8, own: Own, size: usize)
+        requires { (self.now.shape ≡ Shape.Telegram own size) × (size ≤ 5 + length part.old) }
+        ensures { part.new ≡ written part.old 0 (rest_bytes desk.code (body_for d desk.number self.now.body)) }
+    {
+        telegram_copies::put_form(&self.form, size - 5, desk.code, part);
+        put_own(part, own, d, desk.number);
+    }
 
-// The record with a body to desk d, from its form, and how long it is.
-fn put_record(
-    buffer: &mut [u8],
-    desks: [Desk; 4],
-    d: u8,
-    body: Body,
-    shape: Shape,
-    form: &[u8],
-) -> usize
-    requires { (shape ≡ shape_of body) × (form.now ≡ form_of body) × (length (record_for desks d (body_for d (own_of desks d) body)) ≤ length buffer.old) }
-    ensures { (result ≡ length (record_for desks d (body_for d (own_of desks d) body))) × (buffer.new ≡ written buffer.old 0 (record_for desks d (body_for d (own_of desks d) body))) }
-{
-    match shape {
-        Shape::Contact { kind, channel, on } => {
-            put_contact(buffer, d, kind, channel, on);
-            8
-        }
-        Shape::Telegram { own, size } => {
-            let desk = set_state::desk_at(desks, d);
-            put_head(buffer, size, d, 1);
-            put_telegram(&mut buffer[5..], desk, d, body, own, size, form);
-            size
+    // The record to desk d, and how long it is.
+    fn put_record(&self, buffer: &mut [u8], desks: [Desk; 4], d: u8) -> usize
+        requires { length (record_for desks d (body_for d (own_of desks d) self.now.body)) ≤ length buffer.old }
+        ensures { (result ≡ length (record_for desks d (body_for d (own_of desks d) self.now.body))) × (buffer.new ≡ written buffer.old 0 (record_for desks d (body_for d (own_of desks d) self.now.body))) }
+    {
+        match self.shape {
+            Shape::Contact { kind, channel, on } => {
+                put_contact(buffer, d, kind, channel, on);
+                8
+            }
+            Shape::Telegram { own, size } => {
+                let desk = set_state::desk_at(desks, d);
+                put_head(buffer, size, d, TELEGRAM);
+                self.put_telegram(&mut buffer[5..], desk, d, own, size);
+                size
+            }
         }
     }
-}
 
-// The record to desk d, if the lowest bit of m says that it is told.
-fn put_one(
-    buffer: &mut [u8],
-    at: usize,
-    desks: [Desk; 4],
-    d: u8,
-    m: u8,
-    body: Body,
-    shape: Shape,
-    form: &[u8],
-) -> usize
-    requires { (shape ≡ shape_of body) × (form.now ≡ form_of body) × (at + length (to_one desks d m body) ≤ length buffer.old) }
-    ensures { PutAt at (to_one desks d m body) result buffer.old buffer.new }
-{
-    if m % 2 == 1 {
-        return at + put_record(&mut buffer[at..], desks, d, body, shape, form);
+    // The record to desk d, if the lowest bit of m says that it is told.
+    fn put_one(&self, buffer: &mut [u8], at: usize, desks: [Desk; 4], d: u8, m: u8) -> usize
+        requires { at + length (to_one desks d m self.now.body) ≤ length buffer.old }
+        ensures { PutAt at (to_one desks d m self.now.body) result buffer.old buffer.new }
+    {
+        if m % 2 == 1 {
+            return at + self.put_record(&mut buffer[at..], desks, d);
+        }
+        at
     }
-    at
-}
 
-// The records to the desks of a set, lowest first.
-fn put_each(
-    buffer: &mut [u8],
-    at: usize,
-    desks: [Desk; 4],
-    recipients: u8,
-    body: Body,
-    shape: Shape,
-    form: &[u8],
-) -> usize
-    requires { (shape ≡ shape_of body) × (form.now ≡ form_of body) × (at + length (records_of desks (delivery desks recipients body ∷ [])) ≤ length buffer.old) }
-    ensures { PutAt at (records_of desks (delivery desks recipients body ∷ [])) result buffer.old buffer.new }
-{
-    let mut p = at;
-    let mut d: u8 = 0;
-    let mut m = recipients;
-    while 0 < m {
-        p = put_one(buffer, p, desks, d, m, body, shape, form);
-        m = m / 2;
-        d += 1;
+    // The records to the desks of a set, lowest first: m is the set without the places before d.
+    fn put_each(&self, buffer: &mut [u8], at: usize, desks: [Desk; 4], recipients: u8) -> usize
+        requires { at + length (records_of desks (delivery desks recipients self.now.body ∷ [])) ≤ length buffer.old }
+        ensures { PutAt at (records_of desks (delivery desks recipients self.now.body ∷ [])) result buffer.old buffer.new }
+    {
+        let mut p = at;
+        let mut m = recipients;
+        for d in 0..8 {
+            p = self.put_one(buffer, p, desks, d, m);
+            m /= 2;
+        }
+        p
     }
-    p
 }
 
-// Writes one body to the desks of a set, lowest first, from a place on, and gives the place behind. Its telegram is made here, once for
-// all of them; for a contact none is.
+// Writes one body to the desks of a set, lowest first, from a place on, and gives the place behind.
 pub fn put_to(buffer: &mut [u8], at: usize, desks: [Desk; 4], recipients: u8, body: Body) -> usize
     requires { at + length (records_of desks (delivery desks recipients body ∷ [])) ≤ length buffer.old }
     ensures { PutAt at (records_of desks (delivery desks recipients body ∷ [])) result buffer.old buffer.new }
 {
-    let shape = bodies::shape_of(body);
-    match shape {
-        Shape::Contact { .. } => {
-            let form = [0u8; 46];
-            put_each(buffer, at, desks, recipients, body, shape, &form)
-        }
-        Shape::Telegram { .. } => {
-            let form = bodies::form_of(body);
-            put_each(buffer, at, desks, recipients, body, shape, &form)
-        }
-    }
+    let prepared = Prepared::new(body);
+    prepared.put_each(buffer, at, desks, recipients)
 }
 
 // One send of a channel. Nothing is built for a send to nobody.
@@ -166,11 +138,8 @@ pub fn put(buffer: &mut [u8], at: usize, desks: [Desk; 4], channel: u8, sends: [
     ensures { PutAt at (records_of desks (delivered desks channel sends)) result buffer.old buffer.new }
 {
     let mut p = at;
-    let mut k = 0;
-    while k < 7 {
-        let s = sends[k];
+    for s in sends {
         p = put_send(buffer, p, desks, channel, s);
-        k += 1;
     }
     p
 }

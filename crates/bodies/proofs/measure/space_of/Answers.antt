@@ -3,17 +3,10 @@
 use Prim.Native.Nat.{ℕ, ◌*◌, ◌^◌, ◌<◌}
 use mathlib.Core.Path.{ap, sym}
 use native.Mathlib.Nat.{mul-le-mul}
-use native.Mathlib.Omega.{arith}
 use lib.Count.{ones-le}
 use Rattle.bodies.proofs.BodyLaws.{ones_in_lem}
 use borrow.Author.Rules.{rules}
 use Rattle.bodies.proofs.measure.space_of.Goals as goal
-
-pub overflow_cast-result : goal.overflow_cast-result
-overflow_cast-result c = let h : c.args.recipients < 2 ^ 8 = search rules in omega (arith, ones-le 8 _ h)
-
-pub overflow_mul-result : goal.overflow_mul-result
-overflow_mul-result c = let h : c.args.recipients < 2 ^ 8 = search rules in omega (arith, mul-le-mul (ones-le 8 _ h) c.requires)
 
 pub returns : goal.returns
 returns c =

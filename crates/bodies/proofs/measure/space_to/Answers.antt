@@ -2,18 +2,11 @@
 -- Assumes nothing.
 use mathlib.Core.Path.{◌∙◌, sym, ap}
 use native.Mathlib.Nat.{add-zero}
-use native.Mathlib.Omega.{arith}
-use Rattle.telegram.specs.Telegram.{num}
 use Rattle.set_state.specs.State.{own_of}
 use Rattle.set_rules.specs.Records.{space_of}
 use Rattle.bodies.specs.Bodies.{size_in}
 use Rattle.bodies.proofs.BodyLaws.{body-size}
 use Rattle.bodies.proofs.measure.space_to.Goals as goal
-
-pub space_of-requires : goal.space_of-requires
-space_of-requires c =
-    let e = c.size_in.ensures ∙ ap size_in c.shape_of.ensures in
-    omega (arith, e, (body-size c.args.body 0 (num 0)).1)
 
 pub returns : goal.returns
 unfolding space_of

@@ -5,11 +5,7 @@ use Rattle.bodies.specs.Bodies.{delivery_of}
 use Rattle.records.proofs.Writing.{start, all_put}
 use Rattle.records.proofs.RecordLaws.{records-one}
 use Rattle.records.proofs.SendLaws.{nobody}
-use borrow.Author.Rules.{rules}
 use Rattle.records.proofs.writer.put_send.Goals as goal
-
-pub returns-then-s-ne0 : goal.returns-then-s-ne0
-returns-then-s-ne0 c = search rules
 
 pub returns : goal.returns
 returns c =

@@ -1,4 +1,4 @@
--- `records::writer::put_one` meets its contract: a record, or nothing.
+-- `records::prepared::Prepared::put_one` meets its contract: a record, or nothing.
 -- Assumes nothing.
 use Prim.Native.Nat.{ℕ, ◌+◌, ◌≤◌}
 use mathlib.Core.Path.{ap}
@@ -9,16 +9,15 @@ use Rattle.set_rules.specs.Records.{record_for}
 use Rattle.bodies.specs.Bodies.{body_for}
 use Rattle.records.proofs.Writing.{start, all_put, part-back}
 use Rattle.records.proofs.RecordLaws.{one-taken, one_left}
-use borrow.Author.Rules.{rules}
-use Rattle.records.proofs.writer.put_one.Goals as goal
-use Rattle.records.proofs.writer.put_one.Goals.{Then-m-eq1}
+use Rattle.records.proofs.prepared.Prepared.put_one.Goals as goal
+use Rattle.records.proofs.prepared.Prepared.put_one.Goals.{Then-m-eq1}
 
 fits : (c : Then-m-eq1)
-    → let a = c.args in a.at + length (record_for a.desks a.d (body_for a.d (own_of a.desks a.d) a.body)) ≤ length a.buffer.now
-fits c = rw (one-taken _ _ _ _ c.if-m-eq1.true) at c.requires.2
+    → let a = c.args in a.at + length (record_for a.desks a.d (body_for a.d (own_of a.desks a.d) a.self.now.body)) ≤ length a.buffer.now
+fits c = rw (one-taken _ _ _ _ c.if-m-eq1.true) at c.requires
 
 pub put_record-requires : goal.put_record-requires
-put_record-requires c = let st = c in (st.requires.0, st.requires.1, simp (length-take, length-drop) (omega (arith, fits (goal.at.put_record-requires c).Then-m-eq1)))
+put_record-requires c = simp (length-take, length-drop) (omega (arith, fits (goal.at.put_record-requires c).Then-m-eq1))
 
 pub overflow_add-result : goal.overflow_add-result
 overflow_add-result c = omega (arith, fits (goal.at.overflow_add-result c).Then-m-eq1, c.put_record.ensures.0)
