@@ -2,7 +2,7 @@
 use Rattle.std.specs.Prelude.{ℕ, List, [], ◌∷◌, map, ◌≡◌, take}
 use Rattle.set_state.specs.State.{new_set}
 use Rattle.set_state.specs.declared.state.LineSet.{LineSet}
-use Rattle.set_rules.specs.Entries.{read_entry}
+use Rattle.set_rules.specs.Entries.{read_entry, entry_kind}
 use Rattle.set_rules.specs.Feeds.{Item, Seen, step_of, received}
 use Rattle.set_rules.specs.Promises.{Related}
 use Rattle.plain_set.specs.Plain.{set_in, plain_of}
@@ -52,5 +52,5 @@ IsolatedInMemory =
 abbrev pub RenewedInMemory : Type 0
 RenewedInMemory =
     (f : List Item) (cs : List Called) (p q : PlainSet) (h : Item) (count : ℕ) (after : List ℕ)
-    → Calls (plain_of layout_now new_set) f cs p → (read_entry h.entry).kind ≡ 8 → KeepsIn p h.entry 0 count q h.buffer after
+    → Calls (plain_of layout_now new_set) f cs p → entry_kind (read_entry h.entry) ≡ 8 → KeepsIn p h.entry 0 count q h.buffer after
     → q ≡ plain_of layout_now new_set

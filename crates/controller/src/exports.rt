@@ -1,5 +1,5 @@
 // The functions that a caller in another language links. Each passes what lies behind its references on by value, so that
-// only the last two need a proof by hand.
+// none needs a proof by hand.
 ghost use Rattle.std.specs.Prelude.{◌≡◌};
 ghost use Rattle.set_state.specs.State.{new_set};
 ghost use Rattle.plain_set.specs.Plain.{plain_of, flag_of};
@@ -20,34 +20,32 @@ pub struct Kept {
 // another.
 const LAYOUT: [u8; 4] = [b'I', b'M', b'J', 2];
 
+// What C's rules make of `PlainSet`.
+const SIZE: usize = size_of::<PlainSet>();
+
 fn new_plain() -> PlainSet
     ensures { result ≡ plain_of layout_now new_set }
 {
-    let set = LineSet::new();
-    plain_set::plain_of(LAYOUT, set)
+    plain_set::plain_of(LAYOUT, LineSet::new())
 }
 
 // A refused entry leaves every number as it is, even of a set that nobody made, and no entry changes how the memory begins.
 fn step_plain(plain: PlainSet, entry: &[u8], buffer: &mut [u8]) -> Kept
     ensures { Keeps plain entry.now result buffer.old buffer.new }
 {
-    let set = plain_set::set_in(plain);
-    let a = line_set::step(set, entry, buffer);
-    let refused = a.refusal != 0;
-    if refused {
-        return Kept {
+    let mut set = plain_set::set_in(plain);
+    let reply = line_set::step_in(&mut set, entry, buffer);
+    match reply {
+        Err(refusal) => Kept {
             set: plain,
-            count: a.count,
-            refusal: a.refusal,
-        };
-    }
-    let next = a.set;
-    let layout = plain.layout;
-    let after = plain_set::plain_of(layout, next);
-    Kept {
-        set: after,
-        count: a.count,
-        refusal: a.refusal,
+            count: 0,
+            refusal: refusal.number(),
+        },
+        Ok(count) => Kept {
+            set: plain_set::plain_of(plain.layout, set),
+            count,
+            refusal: 0,
+        },
     }
 }
 
@@ -56,7 +54,7 @@ fn step_plain(plain: PlainSet, entry: &[u8], buffer: &mut [u8]) -> Kept
 pub extern "C" fn imjauska_set_size() -> usize
     ensures { result ≡ set_size }
 {
-    1208
+    SIZE
 }
 
 // What the address of a set is a multiple of.
@@ -64,7 +62,7 @@ pub extern "C" fn imjauska_set_size() -> usize
 pub extern "C" fn imjauska_set_align() -> usize
     ensures { result ≡ set_align }
 {
-    4
+    align_of::<PlainSet>()
 }
 
 // Whether bytes that were saved are as long as a set and begin as one of this layout: 1 if so. It says nothing of who wrote
@@ -73,20 +71,8 @@ pub extern "C" fn imjauska_set_align() -> usize
 pub extern "C" fn imjauska_is_current(saved: &[u8]) -> u8
     ensures { result ≡ flag_of (is_current saved.now) }
 {
-    let other = saved.len() != 1208;
-    if other {
-        return 0;
-    }
-    if saved[0] != b'I' {
-        return 0;
-    }
-    if saved[1] != b'M' {
-        return 0;
-    }
-    if saved[2] != b'J' {
-        return 0;
-    }
-    let current = saved[3] == 2;
+    let whole = saved.len() == SIZE;
+    let current = whole && saved.starts_with(&LAYOUT);
     if current { 1 } else { 0 }
 }
 

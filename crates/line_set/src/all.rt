@@ -34,7 +34,7 @@ pub fn put_in(
     records::put(buffer, at, desks, c.code, sends)
 }
 
-// The space that a handover takes.
+// The space that a handover takes. By value, since it is rare: the array's length is then known by the parameter.
 pub fn space_all(set: LineSet) -> usize
     ensures { result ≡ space_of (on_handover set).sent }
 {
@@ -42,12 +42,10 @@ pub fn space_all(set: LineSet) -> usize
     let n = set.size.desks;
     let end = places::count_of(set.size.channels);
     let mut sum = 0;
-    let mut i = 0;
-    while i < end {
+    for i in 0..end {
         let c = set.channels[i];
         sum += space_in(desks, n, Event::EndTalk, c);
         sum += space_in(desks, n, Event::EndCall, c);
-        i += 1;
     }
     sum
 }
@@ -61,12 +59,10 @@ pub fn put_all(set: LineSet, buffer: &mut [u8]) -> usize
     let n = set.size.desks;
     let end = places::count_of(set.size.channels);
     let mut at = 0;
-    let mut i = 0;
-    while i < end {
+    for i in 0..end {
         let c = set.channels[i];
         at = put_in(buffer, at, desks, n, Event::EndTalk, c);
         at = put_in(buffer, at, desks, n, Event::EndCall, c);
-        i += 1;
     }
     at
 }

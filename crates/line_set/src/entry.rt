@@ -1,128 +1,142 @@
 // One entry.
-ghost use Rattle.std.specs.Prelude.{length};
-ghost use Rattle.set_rules.specs.Feeds.{Gives, step_of};
+ghost use Rattle.std.specs.Prelude.{List, ℕ, ◌≡◌, ◌≤◌, length, Ok};
+ghost use Rattle.set_rules.specs.Feeds.{Gives, GivesIn, emit, outcome_of, step_of};
+ghost use Rattle.set_rules.specs.SetRules.{on_link};
+ghost use Rattle.set_state.specs.declared.state.Entry.TheVariants.{Tick, Plan, Handover};
 
 use super::{all, places};
 use channel::{Event, Falling};
-use set_state::{Answer, LineSet};
+use set_state::{Answer, Entry, LineSet, LinkRequest, Refusal};
 use telegram_requests::Asked;
 
-// An entry of any bytes, before any set, with a buffer of any length, ends with the answer that the rules give. The set is
-// changed here alone, where it lies, and there is one exit: a function that takes the set or gives it back copies it.
-pub fn step(mut set: LineSet, entry: &[u8], buffer: &mut [u8]) -> Answer
-    ensures { Gives (step_of set entry.now (length buffer.old)) result buffer.old buffer.new }
+// A plan, taken where there is none yet.
+fn plan(set: &mut LineSet, entry: &[u8], buffer: &mut [u8]) -> Result<usize, Refusal>
+    requires { 4 ≤ length entry.now }
+    ensures { GivesIn (outcome_of set.old entry.now (Ok Plan) (length buffer.old)) result set.new buffer.old buffer.new }
 {
-    let x = entries::read_entry(entry);
+    if set.planned {
+        return Err(Refusal::AlreadyPlanned);
+    }
+    let planned = planning::plan(&entry[4..], buffer)?;
+    *set = planned.set;
+    Ok(planned.count)
+}
+
+// A handover ends all talk and all calls, and leaves a set without a plan.
+fn handover(set: &mut LineSet, buffer: &mut [u8]) -> Result<usize, Refusal>
+    ensures { (e : List ℕ) → GivesIn (outcome_of set.old e (Ok Handover) (length buffer.old)) result set.new buffer.old buffer.new }
+{
+    if !set.planned {
+        return Err(Refusal::NoPlan);
+    }
+    let need = all::space_all(*set);
+    if buffer.len() < need {
+        return Err(Refusal::NoRoom);
+    }
+    let written = all::put_all(*set, buffer);
+    let new = LineSet::new();
+    *set = new;
+    Ok(written)
+}
+
+// Only a timer that runs out sends anything. The space of all of it is summed before any is written. Most channels are at rest, and
+// those past the last that is not are not looked at again. A timer that falls is one byte of the set. The loops go by place: the first
+// gives one, and the second writes the set there.
+fn tick(set: &mut LineSet, buffer: &mut [u8]) -> Result<usize, Refusal>
+    ensures { (e : List ℕ) → GivesIn (outcome_of set.old e (Ok Tick) (length buffer.old)) result set.new buffer.old buffer.new }
+{
+    if !set.planned {
+        return Err(Refusal::NoPlan);
+    }
     let desks = set.desks;
     let n = set.size.desks;
     let count = places::count_of(set.size.channels);
+    let mut need = 0;
+    let mut end = 0;
+    for k in 0..count {
+        let c = set.channels[k];
+        if timers::may_fall(c) {
+            if timers::is_due(c) {
+                need += all::space_in(desks, n, Event::Tick, c);
+            }
+            end = k + 1;
+        }
+    }
+    if buffer.len() < need {
+        return Err(Refusal::NoRoom);
+    }
     let mut written = 0;
-    let mut refusal = 0;
-    if x.kind == 7 {
-        if set.planned {
-            refusal = 5;
-        } else {
-            let a = planning::plan(&entry[4..], buffer);
-            written = a.count;
-            refusal = a.refusal;
-            if a.refusal == 0 {
-                let next = a.set;
-                set = next;
-            }
-        }
-    } else if set.planned & (x.kind == 8) {
-        let need = all::space_all(set);
-        if buffer.len() < need {
-            refusal = 16;
-        } else {
-            written = all::put_all(set, buffer);
-            let new = LineSet::new();
-            set = new;
-        }
-    } else if set.planned & (x.kind == 6) {
-        // Only a timer that runs out sends anything. The space of all of it is summed before any is written. Most channels
-        // are at rest, and those past the last that is not are not looked at again.
-        let mut need = 0;
-        let mut end = 0;
-        let mut k = 0;
-        while k < count {
-            let c = set.channels[k];
-            if timers::may_fall(c) {
-                if timers::is_due(c) {
-                    need += all::space_in(desks, n, Event::Tick, c);
-                }
-                end = k + 1;
-            }
-            k += 1;
-        }
-        if buffer.len() < need {
-            refusal = 16;
-        } else {
-            // A timer that falls is one byte of the set. Few run out.
-            let mut i = 0;
-            while i < end {
-                let c = set.channels[i];
-                let falling = timers::falls(c);
-                match falling {
-                    Falling::Still => {}
-                    Falling::Ring(left) => {
-                        set.channels[i].ring = left;
-                    }
-                    Falling::Quiet(left) => {
-                        set.channels[i].quiet = left;
-                    }
-                    Falling::Release(left) => {
-                        set.channels[i].release = left;
-                    }
-                    Falling::Due => {
-                        written = all::put_in(buffer, written, desks, n, Event::Tick, c);
-                        let next = timers::ticked(c);
-                        set.channels[i] = next;
-                    }
-                }
-                i += 1;
-            }
-        }
-    } else {
-        let asked = requests::asked_of(x, set.planned, entry, desks, n);
-        match asked {
-            Asked::Refusal(number) => {
-                refusal = number;
-            }
-            Asked::OfLink(request) => {
-                let a = changes::link_change(desks, x.desk, request, buffer);
-                written = a.count;
-                refusal = a.refusal;
-                let after = a.desks;
-                set.desks = after;
-            }
-            Asked::OfLine(request) => {
-                // The channel with the code is sought.
-                let code = telegram_requests::code_of(request);
-                let mut i = 0;
-                while i < count {
-                    let c = set.channels[i];
-                    if c.code as u32 == code {
-                        break;
-                    }
-                    i += 1;
-                }
-                let place = places::place_below(count, i);
-                let c = set.channels[place];
-                let a = changes::change_of(desks, n, x, request, i < count, c, buffer);
-                written = a.count;
-                refusal = a.refusal;
-                // A refusal changes nothing, and then nothing is stored.
-                if a.refusal == 0 {
-                    let channel = a.channel;
-                    set.channels[place] = channel;
-                }
+    for i in 0..end {
+        let c = set.channels[i];
+        let falling = timers::falls(c);
+        match falling {
+            Falling::Still => {}
+            Falling::Ring(left) => set.channels[i].ring = left,
+            Falling::Quiet(left) => set.channels[i].quiet = left,
+            Falling::Release(left) => set.channels[i].release = left,
+            Falling::Due => {
+                written = all::put_in(buffer, written, desks, n, Event::Tick, c);
+                let next = timers::ticked(c);
+                set.channels[i] = next;
             }
         }
     }
-    Answer {
-        set,
-        count: written,
-        refusal,
+    Ok(written)
+}
+
+// What desk d says of its link.
+fn link(set: &mut LineSet, d: u8, request: LinkRequest, buffer: &mut [u8]) -> Result<usize, Refusal>
+    ensures { GivesIn (emit set.old (on_link set.old d request) (length buffer.old)) result set.new buffer.old buffer.new }
+{
+    let change = changes::link_change(set.desks, d, request, buffer)?;
+    // an array is stored from a variable only
+    let desks = change.desks;
+    set.desks = desks;
+    Ok(change.count)
+}
+
+// Any other entry: it asks something about a desk's link or about a channel, which is sought by its code.
+fn ask(set: &mut LineSet, x: Entry, entry: &[u8], buffer: &mut [u8]) -> Result<usize, Refusal>
+    requires no_plan { x ≡ Plan → ⊥ }
+    requires no_handover { x ≡ Handover → ⊥ }
+    requires no_tick { x ≡ Tick → ⊥ }
+    ensures { GivesIn (outcome_of set.old entry.now (Ok x) (length buffer.old)) result set.new buffer.old buffer.new }
+{
+    let desks = set.desks;
+    let n = set.size.desks;
+    let asked = requests::asked_of(x, set.planned, entry, desks, n)?;
+    match asked {
+        Asked::OfLink(request) => link(set, x.desk(), request, buffer),
+        Asked::OfLine(request) => {
+            let code = telegram_requests::code_of(request);
+            let sought = places::seek(set, code);
+            let c = sought.channel;
+            let change = changes::change_of(desks, n, x, request, sought.found, c, buffer)?;
+            let channel = change.channel;
+            set.channels[sought.place] = channel;
+            Ok(change.count)
+        }
     }
+}
+
+// An entry of any bytes, before any set, with a buffer of any length, ends with the answer that the rules give. The set is
+// changed where it lies.
+pub fn step_in(set: &mut LineSet, entry: &[u8], buffer: &mut [u8]) -> Result<usize, Refusal>
+    ensures { GivesIn (step_of set.old entry.now (length buffer.old)) result set.new buffer.old buffer.new }
+{
+    let x = entries::read_entry(entry)?;
+    match x {
+        Entry::Plan => plan(set, entry, buffer),
+        Entry::Handover => handover(set, buffer),
+        Entry::Tick => tick(set, buffer),
+        _ => ask(set, x, entry, buffer),
+    }
+}
+
+// As `step_in`, with the set given and given back.
+pub fn step(mut set: LineSet, entry: &[u8], buffer: &mut [u8]) -> Answer
+    ensures { Gives (step_of set entry.now (length buffer.old)) result buffer.old buffer.new }
+{
+    let reply = step_in(&mut set, entry, buffer);
+    Answer { set, reply }
 }

@@ -5,4 +5,4 @@ mod all;
 mod entry;
 mod places;
 
-pub use entry::step;
+pub use entry::{step, step_in};

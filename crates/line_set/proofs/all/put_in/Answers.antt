@@ -6,7 +6,6 @@ use mathlib.Core.Path.{ap, ◌∙◌}
 use lib.ListN.{length}
 use Rattle.records.specs.Emitting.{written}
 use Rattle.changes.proofs.Kept.{same-records}
-use borrow.Author.Rules.{rules}
 use Rattle.line_set.proofs.all.put_in.Goals as goal
 
 pub put-requires : goal.put-requires

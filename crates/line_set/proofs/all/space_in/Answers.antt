@@ -2,7 +2,6 @@
 -- Assumes nothing.
 use mathlib.Core.Path.{◌∙◌}
 use Rattle.changes.proofs.Kept.{same-space}
-use borrow.Author.Rules.{rules}
 use Rattle.line_set.proofs.all.space_in.Goals as goal
 
 pub returns : goal.returns
