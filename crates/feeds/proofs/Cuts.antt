@@ -1,29 +1,28 @@
 -- What is refused with 1, and the entries of a feed, one by one.
 -- Assumes nothing.
-use Prim.Native.Nat.{ℕ, ◌+◌, ◌*◌, ◌≤◌, ◌<◌}
+use Prim.Native.Nat.{ℕ, ◌+◌, ◌≤◌, ◌<◌}
 use mathlib.Core.List.{List, [], ◌∷◌}
-use mathlib.Core.Bool.{Bool, true, false, ◌&&◌, cond}
+use mathlib.Core.Bool.{true, false, cond}
 use mathlib.Core.Path.{◌≡◌, refl, sym, ap, ◌∙◌}
 use native.Mathlib.Omega.{arith}
 use lib.Dec.{eqb, leb}
 use lib.ListN.{length, take, drop, get_or, length-take}
 use lib.Seq.{take_all, take-take, get_or-take}
-use borrow.Author.Tests.{leb-true, leb-false, lt-leb, le-leb, eqb-true}
+use borrow.Author.Tests.{leb-true, leb-false, lt-leb, le-leb}
 use Rattle.laws.specs.Each.{Each}
 use Rattle.laws.proofs.Each.{◌▹◌}
-use Rattle.laws.proofs.Tests.{by_test, either, by_branch, cond_of}
-use Rattle.telegram.specs.Telegram.{read_telegram}
-use Rattle.telegram.specs.declared.message.Reading.{Reading}
+use Rattle.laws.proofs.Tests.{by_test, either}
+use Rattle.telegram.specs.Telegram.{Reading}
 use Rattle.frames.specs.Bytes.{byte, word}
-use Rattle.frames.specs.Frames.{frames_in, frame_size}
-use Rattle.frames.proofs.Kept.{first_frame, size-within, size-some, size-long, size_cuts}
-use Rattle.set_state.specs.declared.state.Entry.{Entry}
+use Rattle.frames.specs.Frames.{frame_size}
+use Rattle.frames.proofs.Kept.{first_frame, size-some, size-long, size_cuts}
+use Rattle.set_state.specs.Entry.{refusal_in}
 use Rattle.set_state.specs.declared.state.LineSet.{LineSet}
-use Rattle.set_rules.specs.Entries.{measured, payload, payload_ok, bad, read_entry, telegram_in}
+use Rattle.set_rules.specs.Entries.{ReadEntry, measured, payload_ok, read_entry}
 use Rattle.set_rules.specs.Refusals.{Lookup, Test, table, first_of, refusal_of}
 use Rattle.set_rules.specs.Records.{space_of}
 use Rattle.set_rules.specs.SetRules.{accepted}
-use Rattle.set_rules.specs.Feeds.{outcome_of, step_of, refuse, emit}
+use Rattle.set_rules.specs.Feeds.{outcome_of, step_of}
 use Rattle.feeds.specs.Listing.{entries_of, entries_in}
 use Rattle.feeds.specs.Promises.{RefusedWithOne, RefusedWithOneOnly, FirstEntry}
 
@@ -37,7 +36,7 @@ abbrev NotOne : ℕ → Type 0
 NotOne n = n ≡ 1 → ⊥
 
 -- no row of the table
-rows-not : (rows : List (ℕ × Test)) (v : Lookup) (e : List ℕ) (r : Reading) (x : Entry) → Each (λ row. NotOne row.0) rows → NotOne (first_of rows v e r x)
+rows-not : (rows : List (ℕ × Test)) (v : Lookup) (e : List ℕ) (r : Reading) (x : ReadEntry) → Each (λ row. NotOne row.0) rows → NotOne (first_of rows v e r x)
 unfolding first_of
 rows-not [] v e r x p = λ z. omega arith
 rows-not (row ∷ rows) v e r x p = either NotOne (row.1 v e r x) row.0 (first_of rows v e r x) p.0 (rows-not rows v e r x p.1)
@@ -48,24 +47,18 @@ numbered =
     n 0 ▹ n 1 ▹ n 2 ▹ n 3 ▹ n 4 ▹ n 5 ▹ n 6 ▹ n 7 ▹ n 8 ▹ n 9 ▹ n 10 ▹ n 11 ▹ n 13 ▹ tt
 
 -- an entry that is measured right asks for something, or is refused with 2 or 3
-abbrev Asks : Entry → Type 0
-Asks x = NotOne x.refusal
-
-asks-some : (k : ℕ) (e : List ℕ) → Asks (payload k e)
-asks-some k e =
-    let n : NotOne 0 = λ z. omega arith in
-    either Asks (eqb k 1) _ _ n (either Asks (eqb k 2) _ _ n (either Asks (eqb k 3) _ _ n (either Asks (eqb k 4) _ _ n (either Asks (eqb k 5) _ _ n
-    (either Asks (eqb k 9) _ _ n (either Asks (eqb k 10) _ _ n n))))))
+abbrev Asks : ReadEntry → Type 0
+Asks x = NotOne (refusal_in x)
 
 reads-right : (e : List ℕ) → measured e ≡ true → Asks (read_entry e)
 unfolding read_entry
 reads-right e m =
-    rw m (either Asks (eqb (byte e 2) 1) _ _ (either Asks (payload_ok (byte e 3) e) _ _ (asks-some (byte e 3) e) (λ z. omega arith)) (λ z. omega arith))
+    rw m (either Asks (eqb (byte e 2) 1) _ _ (either Asks (payload_ok (byte e 3) e) _ _ (λ z. omega arith) (λ z. omega arith)) (λ z. omega arith))
 
-module _ (s : LineSet) (e : List ℕ) (room : ℕ) (x : Entry) (p : Asks x) where
+module _ (s : LineSet) (e : List ℕ) (room : ℕ) (x : ReadEntry) (p : Asks x) where
   refusal-not : NotOne (refusal_of s e x)
   unfolding refusal_of
-  refusal-not = either NotOne (eqb x.refusal 0) _ _ (rows-not table _ e _ x numbered) p
+  refusal-not = either NotOne (eqb (refusal_in x) 0) _ _ (rows-not table _ e _ x numbered) p
 
   outcome_not : NotOne (outcome_of s e x room).refusal
   unfolding outcome_of

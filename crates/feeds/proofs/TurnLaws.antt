@@ -1,8 +1,9 @@
 -- The turns of a program put the listing of the feed, however its bytes came.
 -- Assumes nothing.
-use Prim.Native.Nat.{ℕ, ◌+◌, ◌-◌, ◌%◌, ◌^◌, ◌<◌}
+use Prim.Native.Nat.{ℕ, ◌+◌, ◌^◌, ◌<◌}
 use mathlib.Core.List.{List, [], ◌∷◌, ◌++◌, append-nil}
-use mathlib.Core.Bool.{Bool, true, false, cond}
+use mathlib.Core.Bool.{true, false, cond}
+use Rattle.std.specs.Prelude.{None, Some}
 use mathlib.Core.Path.{◌≡◌, refl, sym, ap, ◌∙◌}
 use native.Mathlib.Omega.{arith}
 use lib.ListN.{length, length-replicate}
@@ -24,18 +25,17 @@ use Rattle.feeds.proofs.Cuts.{with_one, not_with_one, first_entry}
 
 -- ---- the entries of a turn, with the bytes v still to come
 
-module _ {room long : ℕ} {b : List ℕ} {p : Place} {b' : List ℕ} {r : Place} (n : Next 12000 room long b p b' r) where
-  -- the frame is the first entry of the feed from there on
-  handed : r.going ≡ true → (v : List ℕ) → (r.ended ≡ true → v ≡ [])
-      → entries_in (unread b p ++ (came b p b' r ++ v)) ≡ frame_at b' r ∷ cond (measured (frame_at b' r)) (entries_in (unread b' r ++ v)) []
-  handed g v c =
-      let h = hands-first 12000 room long b p b' r v n g c in
-      first_entry (unread b p ++ (came b p b' r ++ v)) h.some ∙ rw (h.first, h.rest) refl
+-- the frame is the first entry of the feed from there on
+handed : {room long : ℕ} {b : List ℕ} {p : Place} {b' : List ℕ} {r : Place} → Next 12000 room long b p b' (Some r) → (v : List ℕ) → (r.ended ≡ true → v ≡ [])
+    → entries_in (unread b p ++ (came b p b' (Some r) ++ v)) ≡ frame_at b' r ∷ cond (measured (frame_at b' r)) (entries_in (unread b' r ++ v)) []
+handed {room} {long} {b} {p} {b'} {r} n v c =
+    let h = hands-first 12000 room long b p b' r v n c in
+    first_entry (unread b p ++ (came b p b' (Some r) ++ v)) h.some ∙ rw (h.first, h.rest) refl
 
-  -- no frame, at the end: no entry is left
-  no_entry : r.failed ≡ false → r.going ≡ false → entries_in (unread b p ++ came b p b' r) ≡ []
-  unfolding frames_to entries_in entries_of
-  no_entry f g = ap entries_in (nothing_left 12000 room long b p b' r n f g)
+-- no frame, at the end: no entry is left
+no_entry : {room long : ℕ} {b : List ℕ} {p : Place} {b' : List ℕ} → Next 12000 room long b p b' None → entries_in (unread b p ++ came b p b' None) ≡ []
+unfolding frames_to entries_in entries_of
+no_entry {room} {long} {b} {p} {b'} n = ap entries_in (nothing_left 12000 room long b p b' n)
 
 -- ---- the text of a turn
 
@@ -56,24 +56,24 @@ unfolding listed run
 listed-none s n = refl
 
 -- the number of the entry
-numbered : {room long : ℕ} {b : List ℕ} {p : Place} {b' : List ℕ} {r : Place} → Next 12000 room long b p b' r → r.going ≡ true → p.number + 1 < 2 ^ 64 → r.number ≡ p.number + 1
-numbered {room} {long} {b} {p} {b'} {r} n g f = n.came.number ∙ (ap (λ (t : Bool). cond t ((p.number + 1) % 2 ^ 64) p.number) g ∙ omega arith)
+numbered : {room long : ℕ} {b : List ℕ} {p : Place} {b' : List ℕ} {r : Place} → Next 12000 room long b p b' (Some r) → p.number + 1 < 2 ^ 64 → r.number ≡ p.number + 1
+numbered n f = n.came.number ∙ omega arith
 
 -- ---- all turns
 
 prints : {room long : ℕ} {s : LineSet} {b : List ℕ} {p : Place} {out v : List ℕ} → Turns 12000 room long s b p out v
     → p.number + length (entries_in (unread b p ++ v)) < 2 ^ 64 → out ≡ listed (p.number + 1) (run s (lent_to 32768 (entries_in (unread b p ++ v))))
-prints (ends {s} {b} {p} {b'} {r} n f g) few =
-    sym (ap (λ (es : List (List ℕ)). listed (p.number + 1) (run s (lent_to 32768 es))) (no_entry n f g) ∙ listed-none s (p.number + 1))
-prints (stops {s} {b} {p} {b'} {r} {v} n g c one) few =
+prints (ends {s} {b} {p} {b'} n) few =
+    sym (ap (λ (es : List (List ℕ)). listed (p.number + 1) (run s (lent_to 32768 es))) (no_entry n) ∙ listed-none s (p.number + 1))
+prints (stops {s} {b} {p} {b'} {r} {v} n c one) few =
     let m : measured (frame_at b' r) ≡ false = by_test (measured (frame_at b' r)) (λ t. absurd (not_with_one s (frame_at b' r) 32768 t one)) (λ t. t) in
-    let e : entries_in (unread b p ++ (came b p b' r ++ v)) ≡ frame_at b' r ∷ [] = handed n g v c ∙ rw m refl in
-    let k : r.number ≡ p.number + 1 = numbered n g (omega (arith, few, ap length e)) in
+    let e : entries_in (unread b p ++ (came b p b' (Some r) ++ v)) ≡ frame_at b' r ∷ [] = handed n v c ∙ rw m refl in
+    let k : r.number ≡ p.number + 1 = numbered n (omega (arith, few, ap length e)) in
     rw (e, k) (sym (listed-first s (p.number + 1) (frame_at b' r) [] ∙ (rw (listed-none (answer_at s b' r).after (p.number + 1 + 1)) (append-nil _))))
-prints (goes {s} {b} {p} {b'} {r} {waits} {out} {v} n g c other turns) few =
+prints (goes {s} {b} {p} {b'} {r} {waits} {out} {v} n c other turns) few =
     let m : measured (frame_at b' r) ≡ true = by_test (measured (frame_at b' r)) (λ t. t) (λ t. absurd (other (with_one s (frame_at b' r) 32768 t))) in
-    let e : entries_in (unread b p ++ (came b p b' r ++ v)) ≡ frame_at b' r ∷ entries_in (unread b' r ++ v) = handed n g v c ∙ rw m refl in
-    let k : r.number ≡ p.number + 1 = numbered n g (omega (arith, few, ap length e)) in
+    let e : entries_in (unread b p ++ (came b p b' (Some r) ++ v)) ≡ frame_at b' r ∷ entries_in (unread b' r ++ v) = handed n v c ∙ rw m refl in
+    let k : r.number ≡ p.number + 1 = numbered n (omega (arith, few, ap length e)) in
     let rest = prints turns (omega (arith, few, ap length e, k)) in
     rw (e, rest, k) (sym (listed-first s (p.number + 1) (frame_at b' r) (entries_in (unread b' r ++ v))))
 

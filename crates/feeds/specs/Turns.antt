@@ -1,8 +1,8 @@
 -- The turns of a program that reads a feed and prints the answers, as the contracts of what it calls give each turn: `streams::next`
--- the entry, `step_in` the answer to it, and the program's own function the text put for it and the place after.
-use Rattle.std.specs.Prelude.{ℕ, List, [], ◌++◌, true, false, not, ◌≡◌, eqb}
+-- the entry, `step_in` the answer to it, and the program's own function the text put for it, behind which so many bytes wait.
+use Rattle.std.specs.Prelude.{ℕ, List, [], ◌++◌, None, Some, true, ◌≡◌}
 use Rattle.answer_lines.specs.Lines.{lines_of}
-use Rattle.streams.specs.Places.{Next, frame_at}
+use Rattle.streams.specs.Places.{Next, frame_at, waiting}
 use Rattle.streams.specs.Promises.{came}
 use Rattle.streams.specs.declared.place.Place.{Place}
 use Rattle.set_rules.specs.Feeds.{Outcome, step_of}
@@ -15,29 +15,15 @@ answer_at s b p = step_of s (frame_at b p) 32768
 abbrev pub text_at : LineSet → List ℕ → Place → List ℕ
 text_at s b p = lines_of p.number (answer_at s b p).refusal (answer_at s b p).count (answer_at s b p).bytes
 
--- the place after its text was put, with so many bytes waiting: after a refusal with 1 the program is to stop
-abbrev pub shown : Place → ℕ → ℕ → Place
-shown p refusal waits =
-    record {
-      from = p.from;
-      to = p.to;
-      going = not (eqb refusal 1);
-      ended = p.ended;
-      failed = p.failed;
-      filled = p.filled;
-      number = p.number;
-      waits = waits;
-    }
-
 -- The turns from a set, a buffer and a place on, in which no call of the system fails: the text that they put, and the bytes that came.
 -- Once a read has found the end, no more come.
 pub data Turns (most room long : ℕ) : LineSet → List ℕ → Place → List ℕ → List ℕ → Type 0 where
-  ends : {s : LineSet} {b : List ℕ} {p : Place} {b' : List ℕ} {r : Place}
-      → Next most room long b p b' r → r.failed ≡ false → r.going ≡ false → Turns most room long s b p [] (came b p b' r)
+  ends : {s : LineSet} {b : List ℕ} {p : Place} {b' : List ℕ}
+      → Next most room long b p b' None → Turns most room long s b p [] (came b p b' None)
   stops : {s : LineSet} {b : List ℕ} {p : Place} {b' : List ℕ} {r : Place} {v : List ℕ}
-      → Next most room long b p b' r → r.going ≡ true → (r.ended ≡ true → v ≡ []) → (answer_at s b' r).refusal ≡ 1
-      → Turns most room long s b p (text_at s b' r) (came b p b' r ++ v)
+      → Next most room long b p b' (Some r) → (r.ended ≡ true → v ≡ []) → (answer_at s b' r).refusal ≡ 1
+      → Turns most room long s b p (text_at s b' r) (came b p b' (Some r) ++ v)
   goes : {s : LineSet} {b : List ℕ} {p : Place} {b' : List ℕ} {r : Place} {waits : ℕ} {out v : List ℕ}
-      → Next most room long b p b' r → r.going ≡ true → (r.ended ≡ true → v ≡ []) → ((answer_at s b' r).refusal ≡ 1 → ⊥)
-      → Turns most room long (answer_at s b' r).after b' (shown r (answer_at s b' r).refusal waits) out v
-      → Turns most room long s b p (text_at s b' r ++ out) (came b p b' r ++ v)
+      → Next most room long b p b' (Some r) → (r.ended ≡ true → v ≡ []) → ((answer_at s b' r).refusal ≡ 1 → ⊥)
+      → Turns most room long (answer_at s b' r).after b' (waiting r waits) out v
+      → Turns most room long s b p (text_at s b' r ++ out) (came b p b' (Some r) ++ v)

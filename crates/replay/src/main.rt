@@ -5,58 +5,70 @@
 
 mod turns;
 
-ghost use Rattle.std.specs.Prelude.{◌≡◌, ◌^◌, ◌≤◌, ◌<◌, true, length, IfSome};
+ghost use Rattle.std.specs.Prelude.{◌≡◌, ◌^◌, ◌≤◌, ◌<◌, length, IfSome, OnOk};
 ghost use Rattle.std.specs.Io.KnownBytes.{Appends};
 ghost use Rattle.feeds.specs.Listing.{listing_of};
 
 use set_state::LineSet;
 use std::io::{Read, Write};
-use streams::Place;
+use streams::{Failure, Place};
 
-// Prints the listing of the feed that the reader gives, and says whether every read and every write was done. One set for the
-// whole run: it lies here, and is lent to each entry in turn.
-pub fn run<R: Read, W: Write, E: Write>(
+// No entry has more bytes behind its length.
+const LONGEST: usize = 12000;
+
+// Prints the listing of the feed that the reader gives, unless a read or a write fails. One set for the whole run: it lies here,
+// and is lent to each entry in turn.
+pub fn run<R: Read, W: Write>(
     reader: &mut R,
     writer: &mut W,
-    errors: &mut E,
     input: &mut [u8],
     records: &mut [u8],
     text: &mut [u8],
-) -> bool
+) -> Result<(), Failure>
     requires { (12002 ≤ length input.old) × (length records.old ≡ 32768) × (73776 ≤ length text.old) }
-    ensures { result ≡ true → IfSome (R.remaining reader.old) (λ feed. length feed < 2 ^ 64 → Appends (W.contents writer.old) (W.contents writer.new) (listing_of feed)) }
+    ensures { OnOk result (IfSome (R.remaining reader.old) (λ feed. length feed < 2 ^ 64 → Appends (W.contents writer.old) (W.contents writer.new) (listing_of feed))) }
 {
     let mut set = LineSet::new();
     let mut at = Place::new();
-    let mut left = u64::MAX;
-    while left > 0 {
-        at = turns::next_entry(reader, writer, errors, at, input, text);
-        if !at.going {
+    // as `telegrams::run` loops: a closure for the step would need a contract on the set and the records, longer than the loop
+    for _ in 0..u64::MAX {
+        let Some(next) = streams::next(
+            reader,
+            writer,
+            at,
+            LONGEST,
+            answer_lines::ROOM,
+            input,
+            text,
+        )?
+        else {
+            return Ok(());
+        };
+        at = next;
+        let reply = lent_set::step_in(&mut set, &input[at.from..at.to], records);
+        at.waits = turns::show(at, reply, records, text);
+        let refusal = set_state::refusal_number(reply);
+        let last = refusal == 1;
+        if last {
             break;
         }
-        let from = at.from;
-        let to = at.to;
-        let reply = lent_set::step_in(&mut set, &input[from..to], records);
-        at = turns::show(at, reply, records, text);
-        if !at.going {
-            break;
-        }
-        left -= 1;
     }
-    let written = streams::write_out(writer, errors, at, text);
-    !at.failed && !written.failed
+    streams::write_out(writer, &text[..at.waits])
 }
 
 fn main(rt: HostRuntime) {
     let mut input = [0u8; 131072];
     let mut records = [0u8; 32768];
     let mut text = [0u8; 131072];
-    run(
+    let done = run(
         &mut rt.stdin(),
         &mut rt.stdout(),
-        &mut rt.stderr(),
         &mut input,
         &mut records,
         &mut text,
     );
+    if let Err(failure) = done {
+        // where this cannot be said, there is nobody to tell
+        let _ = streams::say(&mut rt.stderr(), &failure);
+    }
 }

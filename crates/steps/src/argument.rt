@@ -7,29 +7,22 @@ fn number(text: &[u8]) -> u64
     ensures { result ≡ number_from 0 text.now }
 {
     let mut n = 0;
-    let mut i = 0;
-    while i < text.len() {
-        let byte = text[i];
-        if byte < b'0' {
-            break;
-        }
-        if b'9' < byte {
-            break;
-        }
-        if 100000000 <= n {
+    for &byte in text {
+        let goes_on = byte.is_ascii_digit() & (n < 100000000);
+        if !goes_on {
             break;
         }
         n = n * 10 + (byte - b'0') as u64;
-        i += 1;
     }
     n
 }
 
 // One round where there is no argument.
+#[tactic(auto, unfolding(crate::specs::Rounds::rounds_in))]
 pub fn rounds(text: &[u8]) -> u64
     ensures { result ≡ rounds_in text.now }
 {
-    if text.len() == 0 {
+    if text.is_empty() {
         return 1;
     }
     number(text)

@@ -10,23 +10,13 @@ mod rounds;
 use rounds::Round;
 use std::env::Env;
 use std::io::{Read, Write};
-use streams::Place;
+use streams::Failure;
 
 // Writes the line of a round.
-fn print<W: Write, E: Write>(writer: &mut W, errors: &mut E, round: Round) {
+fn print<W: Write>(writer: &mut W, round: Round) -> Result<(), Failure> {
     let mut text = [0u8; 64];
     let waits = rounds::put_round(round, &mut text);
-    let at = Place {
-        from: 0,
-        to: 0,
-        going: true,
-        ended: false,
-        failed: false,
-        filled: 0,
-        number: 0,
-        waits,
-    };
-    streams::write_out(writer, errors, at, &text);
+    streams::write_out(writer, &text[..waits])
 }
 
 // Reads the whole feed before the first round. Of one that is larger than the room only that much is stepped.
@@ -64,5 +54,8 @@ fn main(rt: HostRuntime) {
         Err(_) => argument::rounds(&[]),
     };
     let round = step_large(&mut rt.stdin(), &mut errors, &mut room, rounds, &mut buffer);
-    print(&mut rt.stdout(), &mut errors, round);
+    if let Err(failure) = print(&mut rt.stdout(), round) {
+        // where this cannot be said, there is nobody to tell
+        let _ = streams::say(&mut errors, &failure);
+    }
 }

@@ -16,8 +16,7 @@ pub struct Round {
     pub bytes: u64,
 }
 
-// Steps a new set through the feed. The set stays in one local and is stepped in this one place: any other would add a
-// copy of it to every entry.
+// Steps a new set through the feed. The set stays in one local and is stepped where it lies: no entry copies it.
 fn step_all(feed: &[u8], buffer: &mut [u8]) -> Round
     ensures { result ≡ round_of (length buffer.old) feed.now }
 {
@@ -25,20 +24,20 @@ fn step_all(feed: &[u8], buffer: &mut [u8]) -> Round
     let mut entries = 0;
     let mut accepted = 0;
     let mut bytes = 0;
-    let mut read = 0;
-    while read < feed.len() {
-        let to = read + frames::frame_size(&feed[read..], LONGEST, true);
-        let answer = line_set::step(set, &feed[read..to], buffer);
-        let after = answer.set;
-        set = after;
-        read = to;
+    let mut rest = feed;
+    while !rest.is_empty() {
+        let size = frames::frame_size(rest, LONGEST, true);
+        let (entry, behind) = rest.split_at(size);
+        let reply = line_set::step_in(&mut set, entry, buffer);
+        rest = behind;
         entries += 1;
         // no feed is long enough to wrap this
-        bytes = std::num::wrapping_add_u64(bytes, answer.count as u64);
-        if answer.refusal == 0 {
+        bytes = std::num::wrapping_add_u64(bytes, set_state::bytes_written(reply) as u64);
+        let refusal = set_state::refusal_number(reply);
+        if refusal == 0 {
             accepted += 1;
         }
-        let last = answer.refusal == 1;
+        let last = refusal == 1;
         if last {
             break;
         }
@@ -59,10 +58,8 @@ pub fn last_round(feed: &[u8], rounds: u64, buffer: &mut [u8]) -> Round
         accepted: 0,
         bytes: 0,
     };
-    let mut left = rounds;
-    while left > 0 {
+    for _ in 0..rounds {
         last = step_all(feed, buffer);
-        left -= 1;
     }
     last
 }

@@ -3,3 +3,4 @@ mod Nexts
 mod Hands
 pub mod Kept
 mod Known
+mod Stands

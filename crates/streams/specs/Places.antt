@@ -1,5 +1,5 @@
 -- Where a program stands between its input, a buffer that frames are read into, and its output, a text that waits to be written.
-use Rattle.std.specs.Prelude.{◌≡◌, ℕ, ◌+◌, ◌-◌, ◌%◌, ◌^◌, ◌≤◌, Bool, true, false, cond, not, ◌&&◌, List, length, take, drop, ◌≢◌, nat_le, nat_lt}
+use Rattle.std.specs.Prelude.{◌≡◌, ℕ, ◌+◌, ◌-◌, ◌%◌, ◌^◌, ◌≤◌, ◌<◌, Bool, true, false, cond, ◌&&◌, List, [], length, take, drop, ◌≢◌, nat_le, nat_lt, Option, None, Some, IfSome, IfNone}
 use Rattle.frames.specs.Frames.{frame_size}
 use Rattle.streams.specs.declared.place.Place.{Place}
 
@@ -7,34 +7,16 @@ use Rattle.streams.specs.declared.place.Place.{Place}
 
 -- nothing is read yet
 abbrev pub start : Place
-start = record { from = 0; to = 0; going = true; ended = false; failed = false; filled = 0; number = 0; waits = 0 }
+start = record { from = 0; to = 0; filled = 0; ended = false; number = 0; waits = 0 }
 
 -- at the frame from a place of the input to another: the next one by number
 abbrev pub at_frame : Place → ℕ → ℕ → ℕ → Bool → Place
 at_frame p from to filled ended =
-    record {
-      from = from;
-      to = to;
-      going = true;
-      ended = ended;
-      failed = false;
-      filled = filled;
-      number = (p.number + 1) % 2 ^ 64;
-      waits = p.waits;
-    }
+    record { from = from; to = to; filled = filled; ended = ended; number = (p.number + 1) % 2 ^ 64; waits = p.waits }
 
--- at no frame, since the input has ended, or since it cannot be read
-abbrev pub at_end : Place → Place
-at_end p = record { from = 0; to = 0; going = false; ended = true; failed = false; filled = 0; number = p.number; waits = p.waits }
-
-abbrev pub unreadable : Place → ℕ → Place
-unreadable p filled =
-    record { from = 0; to = 0; going = false; ended = false; failed = true; filled = filled; number = p.number; waits = p.waits }
-
--- after the text that waits was written, or could not be
-abbrev pub written_out : Place → Bool → Place
-written_out p failed =
-    record { from = p.from; to = p.to; going = not failed; ended = p.ended; failed = failed; filled = p.filled; number = p.number; waits = 0 }
+-- with so many bytes of the text that wait
+abbrev pub waiting : Place → ℕ → Place
+waiting p waits = record { from = p.from; to = p.to; filled = p.filled; ended = p.ended; number = p.number; waits = waits }
 
 -- ---- a place in a buffer
 
@@ -64,21 +46,29 @@ pub record FilledBehind (before : List ℕ) (have : ℕ) (after : List ℕ) (fil
   pub least : have ≤ filled
   pub most : filled ≤ length after
 
--- ---- the next place
+-- ---- the next place, if there is one: at the end of the input there is none
 
--- Where no call failed: the bytes that were unread are the front of those read from the frame on, and the frame is the first of these.
--- Unless the input has ended, there is a whole one.
+-- the bytes that were unread are the front of those read from the frame on, and the frame is the first of these. Unless the input has
+-- ended, there is a whole one.
 pub record Hands (most : ℕ) (before : List ℕ) (p : Place) (after : List ℕ) (r : Place) : Type 0 where
   pub front : take (length (unread before p)) (from_frame after r) ≡ unread before p
   pub size : r.to ≡ r.from + frame_size most (from_frame after r) r.ended
   pub whole : r.ended ≡ false → frame_size most (from_frame after r) false ≢ 0
 
--- the program goes on where there is a frame and no call failed
 pub record Came (most : ℕ) (before : List ℕ) (p : Place) (after : List ℕ) (r : Place) : Type 0 where
   pub within : Within after r
-  pub going : r.going ≡ not r.failed && nat_lt r.from r.to
-  pub number : r.number ≡ cond r.going ((p.number + 1) % 2 ^ 64) p.number
-  pub hands : r.failed ≡ false → Hands most before p after r
+  pub some : r.from < r.to
+  pub number : r.number ≡ (p.number + 1) % 2 ^ 64
+  pub hands : Hands most before p after r
+
+-- Whether a read has found the end of the input, and how much of the text waits: where there is no frame, none does.
+abbrev pub ended_at : Option Place → Bool
+ended_at None = true
+ended_at (Some r) = r.ended
+
+abbrev pub waits_at : Option Place → ℕ
+waits_at None = 0
+waits_at (Some r) = r.waits
 
 -- a frame is there whole, without a read
 abbrev pub is_there : ℕ → List ℕ → Place → Bool
@@ -86,8 +76,9 @@ is_there most b p = nat_lt 0 (frame_size most (unread b p) false)
 
 -- The next place, where an answer takes up to `room` bytes of a text that has `long`. A frame that is there whole is handed out before
 -- more is read. Text that waits is written before more is read, and where it leaves no room for an answer.
-pub record Next (most room long : ℕ) (before : List ℕ) (p : Place) (after : List ℕ) (r : Place) : Type 0 where
-  pub came : Came most before p after r
-  pub unmoved : is_there most before p ≡ true → (after ≡ before) × (r.filled ≡ p.filled)
-  pub waits : r.waits ≡ cond (is_there most before p && nat_le (p.waits + room) long) p.waits 0
-  pub spare : r.waits + room ≤ long
+pub record Next (most room long : ℕ) (before : List ℕ) (p : Place) (after : List ℕ) (r : Option Place) : Type 0 where
+  pub came : IfSome r (Came most before p after)
+  pub none : IfNone r (unread before p ≡ [])
+  pub unmoved : is_there most before p ≡ true → (after ≡ before) × IfSome r (λ q. q.filled ≡ p.filled)
+  pub waits : waits_at r ≡ cond (is_there most before p && nat_le (p.waits + room) long) p.waits 0
+  pub spare : waits_at r + room ≤ long

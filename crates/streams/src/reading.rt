@@ -1,34 +1,16 @@
 // The input, frame by frame.
-ghost use Rattle.std.specs.Prelude.{◌≡◌, ◌+◌, ◌-◌, ◌≤◌, ◌<◌, true, false, ◌++◌, length, take, drop, ◌≢◌};
+ghost use Rattle.std.specs.Prelude.{◌≡◌, ◌+◌, ◌-◌, ◌≤◌, ◌<◌, true, false, ◌++◌, length, take, drop, ◌≢◌, [], IfSome, IfNone, IfOk, OnErr, MatchResult};
 ghost use Rattle.std.specs.Io.{ReadsAtMost};
 ghost use Rattle.std.specs.Io.KnownBytes.{Appends, Consumes, IsAtEnd, ReadConsumes};
 ghost use Rattle.frames.specs.Frames.{frame_size};
-ghost use Rattle.streams.specs.Places.{Within, FilledBehind, Came, Next, between, unread};
+ghost use Rattle.streams.specs.Places.{Within, FilledBehind, Came, Next, between, unread, ended_at, waits_at, is_there};
 ghost use Rattle.streams.specs.Promises.{came};
 
+use super::failure::Failure;
 use super::place::Place;
-use super::{place, report, writing};
+use super::{failure, place, writing};
 use std::io;
 use std::io::{ErrorKind, Read, Write};
-
-// Moves so many bytes from a place on to the front.
-fn move_to_front(input: &mut [u8], from: usize, count: usize)
-    requires { from + count ≤ length input.old }
-    ensures { input.new ≡ take count (drop from input.old) ++ drop count input.old }
-{
-    let mut i = 0;
-    while i < count {
-        input[i] = input[from + i];
-        i += 1;
-    }
-}
-
-// How many bytes a read gave. None of them are the end of the input, unless it failed.
-#[derive(Clone, Copy)]
-struct Got {
-    count: usize,
-    failed: bool,
-}
 
 // Reads once, and again where a signal came before any byte did.
 fn read_once<R: Read>(reader: &mut R, buf: &mut [u8]) -> io::Result<usize>
@@ -48,150 +30,116 @@ fn read_once<R: Read>(reader: &mut R, buf: &mut [u8]) -> io::Result<usize>
     Err(io::Error::from(ErrorKind::Interrupted))
 }
 
-// Reads once, behind the bytes that are there.
-fn read_more<R: Read, E: Write>(
-    reader: &mut R,
-    errors: &mut E,
-    input: &mut [u8],
-    have: usize,
-) -> Got
+// Reads once, behind the bytes that are there, and gives how many came: none at the end of the input.
+fn read_more<R: Read>(reader: &mut R, input: &mut [u8], have: usize) -> io::Result<usize>
     requires { have ≤ length input.old }
-    ensures behind { FilledBehind input.old have input.new (have + result.count) }
-    ensures bytes { Consumes (R.remaining reader.old) (R.remaining reader.new) (between have (have + result.count) input.new) }
-    ensures none { result.failed ≡ true → result.count ≡ 0 }
-    ensures end { result.failed ≡ false → result.count ≡ 0 → have < length input.new → IsAtEnd (R.remaining reader.new) }
+    ensures behind { MatchResult result (λ count. FilledBehind input.old have input.new (have + count)) (λ _. FilledBehind input.old have input.new have) }
+    ensures bytes { ReadConsumes (R.remaining reader.old) (R.remaining reader.new) result (drop have input.new) }
 {
-    match read_once(reader, &mut input[have..]) {
-        Ok(count) => Got {
-            count,
-            failed: false,
-        },
-        Err(error) => {
-            report::say_unreadable(errors, &error);
-            Got {
-                count: 0,
-                failed: true,
-            }
-        }
-    }
+    read_once(reader, &mut input[have..])
 }
 
-// Reads until the input has ended, cannot be read or has no more room, and gives how many bytes came.
+// Reads until the input has ended, cannot be read or has no more room, and gives how many bytes came. Its clauses promise these
+// where a read failed too, so it gives no `Err`.
 pub fn read_all<R: Read, E: Write>(reader: &mut R, errors: &mut E, input: &mut [u8]) -> usize
     ensures filled { FilledBehind input.old 0 input.new result }
     ensures bytes { Consumes (R.remaining reader.old) (R.remaining reader.new) (take result input.new) }
 {
     let mut have = 0;
+    // bytes are counted here and not turns: a `for` would need a bound of its own
     while have < input.len() {
-        let got = read_more(reader, errors, input, have);
-        if got.count == 0 {
-            break;
+        match read_more(reader, input, have) {
+            Ok(0) => break,
+            Ok(count) => have += count,
+            Err(error) => {
+                // where this cannot be said, there is nobody to tell
+                let _ = failure::say(errors, &Failure::Unreadable(error));
+                break;
+            }
         }
-        have += got.count;
     }
     have
 }
 
-// How far the input is filled, and whether that is because it has ended or could not be read.
+// How far the input is filled, and whether it has ended there: a frame's size is asked of both, so neither is the other's `Option`.
 #[derive(Clone, Copy)]
 struct Filling {
     filled: usize,
     ended: bool,
-    failed: bool,
 }
 
 // Reads behind the bytes that are there, until they begin with a whole frame or no more come.
-fn fill<R: Read, E: Write>(
-    reader: &mut R,
-    errors: &mut E,
-    input: &mut [u8],
-    have: usize,
-    most: usize,
-) -> Filling
+fn fill<R: Read>(reader: &mut R, input: &mut [u8], have: usize, most: usize) -> io::Result<Filling>
     requires { (have ≤ length input.old) × (most + 2 ≤ length input.old) × (frame_size most (take have input.old) false ≡ 0) }
-    ensures behind { FilledBehind input.old have input.new result.filled }
-    ensures whole { result.ended ≡ false → result.failed ≡ false → frame_size most (take result.filled input.new) false ≢ 0 }
-    ensures bytes { Consumes (R.remaining reader.old) (R.remaining reader.new) (between have result.filled input.new) }
-    ensures end { result.ended ≡ true → IsAtEnd (R.remaining reader.new) }
+    ensures behind { IfOk result (λ f. FilledBehind input.old have input.new f.filled) }
+    ensures whole { IfOk result (λ f. f.ended ≡ false → frame_size most (take f.filled input.new) false ≢ 0) }
+    ensures bytes { IfOk result (λ f. Consumes (R.remaining reader.old) (R.remaining reader.new) (between have f.filled input.new)) }
+    ensures end { IfOk result (λ f. f.ended ≡ true → IsAtEnd (R.remaining reader.new)) }
 {
     let mut filled = have;
+    // as in `read_all`, bytes are counted
     while filled < input.len() {
-        let got = read_more(reader, errors, input, filled);
-        if got.failed {
-            return Filling {
-                filled,
-                ended: false,
-                failed: true,
-            };
-        }
-        if got.count == 0 {
-            return Filling {
+        let count = read_more(reader, input, filled)?;
+        if count == 0 {
+            return Ok(Filling {
                 filled,
                 ended: true,
-                failed: false,
-            };
+            });
         }
-        filled += got.count;
+        filled += count;
         if 0 < frames::frame_size(&input[..filled], most, false) {
             break;
         }
     }
-    Filling {
+    Ok(Filling {
         filled,
         ended: false,
-        failed: false,
-    }
+    })
 }
 
 // Moves the bytes behind the frame to the front, and reads more behind them.
-fn refill<R: Read, E: Write>(
+fn refill<R: Read>(
     reader: &mut R,
-    errors: &mut E,
     at: Place,
     most: usize,
     input: &mut [u8],
-) -> Place
+) -> io::Result<Option<Place>>
     requires { Within input.old at × (most + 2 ≤ length input.old) × (frame_size most (unread input.old at) false ≡ 0) }
-    ensures next { Came most input.old at input.new result × (result.waits ≡ at.waits) }
-    ensures reads { result.failed ≡ false → Consumes (R.remaining reader.old) (R.remaining reader.new) (came input.old at input.new result) }
-    ensures end { result.ended ≡ true → IsAtEnd (R.remaining reader.new) }
+    ensures some { IfOk result (λ r. IfSome r (λ q. Came most input.old at input.new q × (q.waits ≡ at.waits))) }
+    ensures none { IfOk result (λ r. IfNone r (unread input.old at ≡ [])) }
+    ensures reads { IfOk result (λ r. Consumes (R.remaining reader.old) (R.remaining reader.new) (came input.old at input.new r)) }
+    ensures end { IfOk result (λ r. ended_at r ≡ true → IsAtEnd (R.remaining reader.new)) }
 {
-    let from = at.to;
-    let have = at.filled - from;
-    move_to_front(input, from, have);
-    let got = fill(reader, errors, input, have, most);
-    let filled = got.filled;
-    if got.failed {
-        return place::unreadable(at, filled);
-    }
-    let ended = got.ended;
-    let size = frames::frame_size(&input[..filled], most, ended);
+    let have = at.filled - at.to;
+    input.copy_within(at.to..at.filled, 0);
+    let got = fill(reader, input, have, most)?;
+    let size = frames::frame_size(&input[..got.filled], most, got.ended);
     let none = size == 0;
     if none {
-        return place::at_end(at);
+        return Ok(None);
     }
-    place::at_frame(at, 0, size, filled, ended)
+    Ok(Some(place::at_frame(at, 0, size, got.filled, got.ended)))
 }
 
-// The frame behind this one, of at most `most` bytes behind its length, or a place that is not going where there is none. The
-// text is written before more is read, and where it has no room for another answer. Where no call fails and the bytes of the
-// reader and of the writer are known: what comes is what the reader gives, which has no more once the input has ended, and the
-// text that waited is written or still waits.
-pub fn next<R: Read, W: Write, E: Write>(
+// The frame behind this one, of at most `most` bytes behind its length, if there is one. The text is written before more is read,
+// and where it has no room for another answer. Where the bytes of the reader and of the writer are known: what comes is what the
+// reader gives, which has no more once the input has ended, and the text that waited is written or still waits. The buffers are lent
+// apart: in one struct the frame, a slice of `input`, would keep the text from being written.
+pub fn next<R: Read, W: Write>(
     reader: &mut R,
     writer: &mut W,
-    errors: &mut E,
     at: Place,
     most: usize,
     room: usize,
     input: &mut [u8],
     text: &[u8],
-) -> Place
+) -> Result<Option<Place>, Failure>
     requires { Within input.old at × (most + 2 ≤ length input.old) × (at.waits ≤ length text.now) × (room ≤ length text.now) }
-    ensures next { Next most room (length text.now) input.old at input.new result }
-    ensures reads { result.failed ≡ false → Consumes (R.remaining reader.old) (R.remaining reader.new) (came input.old at input.new result) }
-    ensures end { result.failed ≡ false → result.ended ≡ true → IsAtEnd (R.remaining reader.new) }
-    ensures writes { result.failed ≡ false → Appends (W.contents writer.old) (W.contents writer.new) (take (at.waits - result.waits) text.now) }
+    ensures next { IfOk result (Next most room (length text.now) input.old at input.new) }
+    ensures kept { OnErr result (is_there most input.old at ≡ true → input.new ≡ input.old) }
+    ensures reads { IfOk result (λ r. Consumes (R.remaining reader.old) (R.remaining reader.new) (came input.old at input.new r)) }
+    ensures end { IfOk result (λ r. ended_at r ≡ true → IsAtEnd (R.remaining reader.new)) }
+    ensures writes { IfOk result (λ r. Appends (W.contents writer.old) (W.contents writer.new) (take (at.waits - waits_at r) text.now)) }
 {
     let from = at.to;
     let filled = at.filled;
@@ -199,15 +147,17 @@ pub fn next<R: Read, W: Write, E: Write>(
     if 0 < size {
         let fits = room <= text.len() - at.waits;
         if fits {
-            return place::at_frame(at, from, from + size, filled, false);
+            return Ok(Some(place::at_frame(at, from, from + size, filled, false)));
         }
     }
-    let written = writing::write_out(writer, errors, at, text);
-    if written.failed {
-        return written;
+    writing::write_out(writer, &text[..at.waits])?;
+    let written = Place { waits: 0, ..at };
+    let whole = size > 0;
+    if whole {
+        return Ok(Some(place::at_frame(written, from, from + size, filled, false)));
     }
-    if size > 0 {
-        return place::at_frame(written, from, from + size, filled, false);
+    match refill(reader, written, most, input) {
+        Ok(next) => Ok(next),
+        Err(error) => Err(Failure::Unreadable(error)),
     }
-    refill(reader, errors, written, most, input)
 }

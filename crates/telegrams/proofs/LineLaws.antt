@@ -2,31 +2,29 @@
 -- Assumes nothing.
 use Prim.Native.Nat.{ℕ, ◌+◌, ◌-◌, ◌^◌, ◌≤◌, ◌<◌}
 use mathlib.Core.List.{List, [], append-nil, append_assoc}
-use mathlib.Core.Bool.{true, false}
+use mathlib.Core.Bool.{true}
 use mathlib.Core.Logic.{◌⊎◌, inl, inr}
 use mathlib.Core.Path.{◌≡◌, refl, sym, ap, ◌∙◌}
 use native.Mathlib.Omega.{arith}
-use lib.Dec.{eqb, leb}
+use lib.Dec.{leb}
 use lib.ListN.{length, take, drop, length-drop, length-append}
 use lib.Seq.{sets, drop-drop, drop-length, sets-eq}
-use borrow.Author.Tests.{le-leb, eq-eqb, ne_eqb}
+use borrow.Author.Tests.{le-leb}
 use borrow.Rule.Slice.PartMut.{put_mid}
+use Rattle.std.specs.Prelude.{Ok, Err}
 use Rattle.laws.proofs.Lists.{part_to_end}
-use Rattle.frames.specs.Bytes.{word}
 use Rattle.text.specs.Ascii.{ascii}
 use Rattle.text.specs.Decimal.{decimal}
 use Rattle.text.specs.Written.{written, Puts}
-use Rattle.text.proofs.Kept.{decimal-length, puts_none, puts-length}
-use Rattle.streams.specs.declared.place.Place.{Place}
-use Rattle.telegram.specs.Telegram.{size_of, telegram_of, sendable, over, read_telegram, write_answer, write_into, write_refusal, write_count}
+use Rattle.text.proofs.Kept.{decimal-length}
+use Rattle.telegram.specs.declared.message.ReadError.{ReadError}
+use Rattle.telegram.specs.Telegram.{Written, refusal_of, size_of, telegram_of, sendable, over, read_telegram, write_answer, write_into, write_refusal, write_count}
 use Rattle.telegram.specs.declared.message.Message.{Message}
 use Rattle.telegram.specs.Promises.{RefusedRight}
-use Rattle.telegram.specs.declared.message.Reading.{Reading}
-use Rattle.telegram.specs.declared.message.Reading.TheVariants.{Telegram, Refused}
-use Rattle.telegram.specs.declared.message.Written.{Written}
+use Rattle.telegram.specs.Telegram.{Reading}
 use Rattle.telegram.proofs.Kept.{length-telegram, size-most, writer_numbers, reader_numbers}
 use Rattle.telegrams.specs.Promises.{LinesShort}
-use Rattle.telegrams.specs.Lines.{message_line, reading_line, answer_line, whole, frame_line, shown}
+use Rattle.telegrams.specs.Lines.{message_line, reading_line, answer_line}
 
 -- bytes at the front of the part from a place to the end are bytes put at the place
 part_put : (xs b : List ℕ) (at : ℕ) → at + length xs ≤ length b → put_mid at (length b - at) b (over xs (take (length b - at) (drop at b))) ≡ sets b at xs
@@ -70,12 +68,12 @@ unfolding answer_line
 line_of s e = ap reading_line e
 
 -- a refusal number has two digits at most
-pub few-digits : (s : List ℕ) {n c i : ℕ} → read_telegram s ≡ Refused n c i → length (decimal n) ≤ 2
-few-digits s {n} {c} {i} e =
-    let r : RefusedRight (Refused n c i) = rw e at (reader_numbers s) in
-    decimal-length 1 n (small r)
+pub few-digits : (s : List ℕ) {x : ReadError} → read_telegram s ≡ Err x → length (decimal (refusal_of x)) ≤ 2
+few-digits s {x} e =
+    let r : RefusedRight (Err x) = rw e at (reader_numbers s) in
+    decimal-length 1 (refusal_of x) (small r)
   where
-    small : (n ≡ 8) ⊎ ((n ≡ 9) ⊎ (n ≡ 10)) → n < 10 ^ 2
+    small : (refusal_of x ≡ 8) ⊎ ((refusal_of x ≡ 9) ⊎ (refusal_of x ≡ 10)) → refusal_of x < 10 ^ 2
     small (inl k) = omega arith
     small (inr (inl k)) = omega arith
     small (inr (inr k)) = omega arith
@@ -89,24 +87,5 @@ pub line-short : LinesShort
 line-short s = go (read_telegram s) refl
   where
     go : (r : Reading) → read_telegram s ≡ r → length (answer_line s) ≤ 64
-    go (Telegram c m) e = rw (line_of s e) (message-short c m)
-    go (Refused n c i) e = rw (line_of s e) (simp length-append (omega (arith, few-digits s e)))
-
--- ---- the line of a frame, whose length says w
-
-pub shown-whole : (p : Place) (f : List ℕ) (w waits : ℕ) → w ≡ word f 0 → shown p (eqb (w + 2) (length f)) waits ≡ shown p (whole f) waits
-shown-whole p f w waits e = ap (λ (n : ℕ). shown p (eqb (n + 2) (length f)) waits) e
-
-module _ (f : List ℕ) (w : ℕ) (e : w ≡ word f 0) (b : List ℕ) (at : ℕ) (h : at + 64 ≤ length b) where
-  pub whole_put : {b₁ : List ℕ} {r : ℕ} → w + 2 ≡ length f → Puts b at (answer_line (take (length f - 2) (drop 2 f))) b₁ r → (r ≤ length b₁) × Puts b at (frame_line f) b₁ r
-  unfolding frame_line
-  whole_put {b₁} {r} k put =
-      let all : whole f ≡ true = eq-eqb (word f 0 + 2) (length f) (omega (arith, e, k)) in
-      let behind : Puts b at (answer_line (drop 2 f)) b₁ r = rw (part_to_end f 2) at put in
-      (omega (arith, behind.place, puts-length behind, line-short (drop 2 f), h), rw all behind)
-
-  pub none_put : (w + 2 ≡ length f → ⊥) → (at ≤ length b) × Puts b at (frame_line f) b at
-  unfolding frame_line
-  none_put n =
-      let broken : whole f ≡ false = ne_eqb (word f 0 + 2) (length f) (λ k. n (omega (arith, e, k))) in
-      (omega (arith, h), rw broken (puts_none b at))
+    go (Ok t) e = rw (line_of s e) (message-short t.code t.message)
+    go (Err x) e = rw (line_of s e) (simp length-append (omega (arith, few-digits s e)))

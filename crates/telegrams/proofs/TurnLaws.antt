@@ -3,6 +3,7 @@
 use Prim.Native.Nat.{ℕ, ◌+◌, ◌-◌, ◌≤◌, ◌<◌}
 use mathlib.Core.List.{List, [], ◌++◌, append-nil}
 use mathlib.Core.Bool.{true, false, true≢false}
+use Rattle.std.specs.Prelude.{Some}
 use mathlib.Core.Path.{◌≡◌, refl, sym, ap, ◌∙◌}
 use native.Mathlib.Omega.{arith}
 use lib.Dec.{leb}
@@ -61,14 +62,14 @@ unfolding telegram_lines lines_of frames_to
 lines_none = refl
 
 prints : {room long : ℕ} {b : List ℕ} {p : Place} {out v : List ℕ} → Turns room long b p out v → Bytes (unread b p ++ v) → out ≡ telegram_lines (unread b p ++ v)
-prints {room} {long} (ends {b} {p} {b'} {r} n f g) e = sym (ap telegram_lines (nothing_left 65535 room long b p b' r n f g) ∙ lines_none)
-prints {room} {long} (stops {b} {p} {b'} {r} {v} n g c t) e =
-    let h = hands-first 65535 room long b p b' r v n g c in
+prints {room} {long} (ends {b} {p} {b'} n) e = sym (ap telegram_lines (nothing_left 65535 room long b p b' n) ∙ lines_none)
+prints {room} {long} (stops {b} {p} {b'} {r} {v} n c t) e =
+    let h = hands-first 65535 room long b p b' r v n c in
     sym (lines_first h e ∙ rw (broken-last h e t, lines_none) (append-nil _))
-prints {room} {long} (goes {b} {p} {b'} {r} {waits} {out} {v} n g c t turns) e =
-    let h = hands-first 65535 room long b p b' r v n g c in
-    let all : List ℕ = unread b p ++ (came b p b' r ++ v) in
-    let behind : Bytes (unread b' r ++ v) = rw h.rest at (each_drop (λ x. x < 256) (frame_size 65535 (unread b p ++ (came b p b' r ++ v)) true) (unread b p ++ (came b p b' r ++ v)) e) in
+prints {room} {long} (goes {b} {p} {b'} {r} {waits} {out} {v} n c t turns) e =
+    let h = hands-first 65535 room long b p b' r v n c in
+    let all : List ℕ = unread b p ++ (came b p b' (Some r) ++ v) in
+    let behind : Bytes (unread b' r ++ v) = rw h.rest at (each_drop (λ x. x < 256) (frame_size 65535 (unread b p ++ (came b p b' (Some r) ++ v)) true) (unread b p ++ (came b p b' (Some r) ++ v)) e) in
     sym (lines_first h e ∙ ap (λ (x : List ℕ). frame_line (frame_at b' r) ++ x) (sym (prints turns behind)))
 
 pub turns_print : TurnsPrint

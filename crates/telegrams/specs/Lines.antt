@@ -1,15 +1,13 @@
 -- What the program prints: for each telegram a line, "0 and the telegram as the writer writes the message that was read, or the
 -- refusal number alone. A telegram that breaks off gets no line".
-use Rattle.std.specs.Prelude.{ℕ, ◌+◌, List, [], ◌∷◌, ◌++◌, Bool, cond, eqb, length, drop}
+use Rattle.std.specs.Prelude.{ℕ, ◌+◌, List, [], ◌∷◌, ◌++◌, Bool, cond, eqb, length, drop, Ok, Err}
 use Rattle.frames.specs.Bytes.{word}
 use Rattle.frames.specs.Frames.{frames_in}
 use Rattle.text.specs.Ascii.{ascii}
 use Rattle.text.specs.Decimal.{decimal, line}
-use Rattle.streams.specs.declared.place.Place.{Place}
-use Rattle.telegram.specs.Telegram.{read_telegram, telegram_of}
+use Rattle.telegram.specs.Telegram.{read_telegram, telegram_of, refusal_of}
 use Rattle.telegram.specs.declared.message.Message.{Message}
-use Rattle.telegram.specs.declared.message.Reading.{Reading}
-use Rattle.telegram.specs.declared.message.Reading.TheVariants.{Telegram, Refused}
+use Rattle.telegram.specs.Telegram.{Reading}
 
 -- ---- lines
 
@@ -22,8 +20,8 @@ abbrev pub refusal_line : ℕ → List ℕ
 refusal_line n = line (decimal n) []
 
 abbrev pub reading_line : Reading → List ℕ
-reading_line (Telegram c m) = message_line c m
-reading_line (Refused n c i) = refusal_line n
+reading_line (Ok t) = message_line t.code t.message
+reading_line (Err e) = refusal_line (refusal_of e)
 
 -- the line for a telegram's bytes
 unfoldable pub answer_line : List ℕ → List ℕ
@@ -44,19 +42,3 @@ lines_of (f ∷ fs) = frame_line f ++ lines_of fs
 
 unfoldable pub telegram_lines : List ℕ → List ℕ
 telegram_lines input = lines_of (frames_in input)
-
--- ---- the place after a frame's line was put
-
--- with so many bytes waiting: after a frame that breaks off the program is to stop
-abbrev pub shown : Place → Bool → ℕ → Place
-shown p going waits =
-    record {
-      from = p.from;
-      to = p.to;
-      going = going;
-      ended = p.ended;
-      failed = p.failed;
-      filled = p.filled;
-      number = p.number;
-      waits = waits;
-    }

@@ -4,7 +4,7 @@ ghost use Rattle.text.specs.Written.{Puts};
 ghost use Rattle.telegram.specs.Telegram.{sendable, telegram_of};
 ghost use Rattle.telegrams.specs.Lines.{message_line, answer_line};
 
-use telegram::{Message, Reading, Written};
+use telegram::Message;
 
 // No line is longer.
 pub const ROOM: usize = 64;
@@ -14,11 +14,9 @@ fn put_message(message: Message, code: u32, text: &mut [u8], at: usize) -> usize
     requires { (sendable code message ≡ true) × (at + 46 ≤ length text.old) }
     ensures { Puts text.old at (telegram_of code message) text.new result }
 {
-    let w = telegram_writer::write(message, code, &mut text[at..]);
-    match w {
-        Written::Count(n) => at + n,
-        Written::OutOfRange => at,
-        Written::NoRoom => at,
+    match telegram_writer::write(message, code, &mut text[at..]) {
+        Ok(n) => at + n,
+        Err(error) => at,
     }
 }
 
@@ -38,13 +36,8 @@ pub fn put_line(telegram: &[u8], text: &mut [u8], at: usize) -> usize
     requires { at + 64 ≤ length text.old }
     ensures { Puts text.old at (answer_line telegram.now) text.new result }
 {
-    let r = telegram_reader::read(telegram);
-    match r {
-        Reading::Telegram { code, message } => put_telegram(message, code, text, at),
-        Reading::Refused {
-            number,
-            code,
-            identifier,
-        } => text::put_item(number as u64, b'\n', text, at),
+    match telegram_reader::read(telegram) {
+        Ok(read) => put_telegram(read.message, read.code, text, at),
+        Err(error) => text::put_item(error.refusal() as u64, b'\n', text, at),
     }
 }

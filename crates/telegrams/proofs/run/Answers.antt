@@ -1,48 +1,51 @@
 -- `telegrams::run` meets its contract: what each turn writes, and what it leaves waiting, are the lines of what was given up to there.
 -- Assumes nothing.
-use Rattle.std.proofs.Common.{◌≡◌, ℕ, ◌<◌, ◌^◌, List, Some, length, sym, ap, ◌∙◌, arith, rules}
-use borrow.Author.Tests.{not-true, not-false}
-use Rattle.streams.proofs.Kept.{unfailed}
-use Rattle.streams.specs.declared.place.Place.{Place}
+use Rattle.std.proofs.Common.{◌≡◌, ℕ, ◌<◌, ◌≤◌, ◌^◌, List, Some, length, drop, sym, refl, ◌∙◌, arith, rules}
+use Rattle.std.proofs.lemmas.Result.{on_ok_weaker}
+use Rattle.laws.proofs.Lists.{part_to_end}
+use Rattle.text.specs.Written.{Puts}
+use Rattle.streams.specs.Places.{frame_at}
+use Rattle.telegrams.specs.Lines.{answer_line}
 use Rattle.telegrams.specs.Promises.{Bytes}
-use Rattle.telegrams.proofs.RunLaws.{Ends, turn_goes, turn_ends, turn_stops, spent, printed, where_known}
+use Rattle.telegrams.proofs.LineLaws.{line-short}
+use Rattle.telegrams.proofs.RunLaws.{Ends, goes, ends, stops, spent, where_known}
 use Rattle.telegrams.proofs.run.Goals as goal
-use Rattle.telegrams.proofs.run.Goals.{else-loop-left-test, then-loop-left-test+then-not-at, then-loop-left-test+else-not-at+then-not-at-2}
+use Rattle.telegrams.proofs.run.Goals.{else-loop-test, then-loop-test+in_ok-next+in-Some+then-not-whole}
 
-pub loop-left-preserved : goal.loop-left-preserved
-loop-left-preserved g c =
-    let i = c.loop-left.invariant in
-    let n = c.next_frame-at.ensures in
-    let s = c.show-at.ensures in
-    let on = not-false c.next_frame-at.result.going c.if-not-at.false in
-    let f = unfailed n.next on in (
+pub returns-in_default : goal.returns-in_default
+returns-in_default g c =
+    let e = c.in_ok-next.ensures in
+    let none = c.in_default.is in
+    where_known _ _ _ (λ given k h m. ends _ _ (c.loop.invariant.4 given k h m) (rw none at e.next) (rw none at e.reads) ((rw none at e.end) refl) (rw none at e.writes))
+
+pub loop-preserved : goal.loop-preserved
+loop-preserved g c =
+    let i = c.loop.invariant in
+    let e = c.in_ok-next.ensures in
+    let some = c.in-Some.is in
+    let n = rw some at e.next in
+    let frame : List ℕ = frame_at c.next.new.input c.in-Some.next in
+    let put : Puts c.loop.text c.in-Some.next.waits (answer_line (drop 2 frame)) c.put_line.new.text c.put_line.result = rw (part_to_end frame 2) at c.put_line.ensures in
+    let fits : c.put_line.result ≤ length c.loop.text = omega (arith, put.place, line-short (drop 2 frame), n.spare) in (
+      record { frame = n.came.within.frame; read = n.came.within.read; room = n.came.within.room },
       search rules,
       search rules,
       search rules,
-      search rules,
-      search rules,
-      λ given k h l. turn_goes _ _ _ _ _ (i.5 given k h l) n.next f (n.reads f) (n.end f) (n.writes f) on s.2 (omega (arith, s.1)) _ _ s.0,
+      λ given k h m. goes _ _ (i.4 given k h m) n (rw some at e.reads) (rw some at e.end) (rw some at e.writes) _ (omega arith) (sym c.is_whole-whole.ensures ∙ c.if-not-whole.false) put fits,
     )
 
-pub returns-then-not-at-3 : goal.returns-then-not-at-3
-returns-then-not-at-3 g c =
-    let i = c.loop-left.invariant in
-    let l = c.loop-left-test in
-    let out = c.write_out-written in
+pub returns : goal.returns
+returns g c =
+    let i = c.loop.invariant in
+    let l = c.loop-test in
     let ended : (given : List ℕ) → g.R.Read.remaining c.args.reader.now ≡ Some given → Bytes given → length given < 2 ^ 64
-    → Ends given (g.W.Write.contents c.args.writer.now) (g.W.Write.contents l.writer) l.at l.text =
+    → Ends given (g.W.Write.contents c.args.writer.now) (g.W.Write.contents l.writer) l.at c.loop.text =
     λ given k h m. elim l.branch [
-      | else-loop-left-test w ↦ rw (w.writer-is, w.at-is, w.text-is) (spent (i.5 given k h m) (omega (arith, w.loop-left-test.false)))
-      | then-loop-left-test+then-not-at w ↦
-          let n = w.next_frame-at.ensures in
-          let f = ap (λ (p : Place). p.failed) (sym w.at-is) ∙ not-true l.at.failed c.if-not-at-3.true in
-          rw (w.writer-is, w.at-is, w.text-is) (turn_ends _ _ _ _ _ (i.5 given k h m) n.next f (n.reads f) (n.end f) (n.writes f) (not-true w.next_frame-at.result.going w.if-not-at.true))
-      | then-loop-left-test+else-not-at+then-not-at-2 w ↦
-          let n = w.next_frame-at.ensures in
-          let s = w.show-at.ensures in
-          let on = not-false w.next_frame-at.result.going w.if-not-at.false in
-          let f = unfailed n.next on in
-          rw (w.writer-is, w.at-is, w.text-is)
-          (turn_stops _ _ _ _ _ (i.5 given k h m) n.next f (n.reads f) (n.end f) (n.writes f) on s.2 (omega (arith, s.1)) _ s.0 (not-true w.show-at.result.going w.if-not-at-2.true))
+      | else-loop-test w ↦ rw (w.writer-is, w.at-is) (spent (i.4 given k h m) (omega (arith, w.loop-test.false)))
+      | then-loop-test+in_ok-next+in-Some+then-not-whole w ↦
+          let e = w.in_ok-next.ensures in
+          let some = w.in-Some.is in
+          let n = rw some at e.next in
+          rw (w.writer-is, w.at-is) (stops _ _ (i.4 given k h m) n (rw some at e.reads) (rw some at e.end) (rw some at e.writes) (sym w.is_whole-whole.ensures ∙ w.if-not-whole.true) (omega (arith, n.spare)))
     ] in
-    λ e. where_known _ _ _ (λ given k h m. printed _ _ _ (ended given k h m) (out.ensures.writes (not-true out.result.failed e)))
+    on_ok_weaker c.write_out.result (λ a. where_known _ _ _ (λ given k h m. ended given k h m _ a)) c.write_out.ensures

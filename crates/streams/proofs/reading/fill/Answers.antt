@@ -1,48 +1,30 @@
 -- `streams::reading::fill` meets its contract: each turn adds a byte at least behind those that are there. No turn begins with a whole
 -- frame, so a full input is none that is waited for.
 -- Assumes nothing.
-use Rattle.std.proofs.Common.{◌≡◌, ℕ, ◌+◌, false, List, take, sym, ap, ◌∙◌, arith, take_all}
+use Rattle.std.proofs.Common.{◌≡◌, ℕ, false, List, take, sym, ap, ◌∙◌, arith, take_all}
 use Rattle.frames.specs.Frames.{frame_size}
 use Rattle.frames.proofs.Kept.{size-full}
-use Rattle.streams.proofs.Moving.{filled_on, filled-not, consumes_on, consumes-not}
+use Rattle.streams.proofs.Moving.{filled_on, consumes_on}
 use Rattle.streams.proofs.reading.fill.Goals as goal
+
+pub loop-filled-preserved : goal.loop-filled-preserved
+loop-filled-preserved g c =
+    let l = c.loop-filled in
+    let r = c.in_ok-count.ensures in
+    (filled_on l.invariant.0 r.behind, sym c.frame_size.ensures ∙ omega arith, consumes_on _ _ _ _ l.invariant.0.least r.behind l.invariant.2 r.bytes.0)
 
 pub returns-after-loop-filled-clause-whole : goal.returns-after-loop-filled-clause-whole
 returns-after-loop-filled-clause-whole g c =
     let l = c.loop-filled in
     let a = c.args in
     let all : take l.filled l.input ≡ l.input = take_all l.filled l.input (omega arith) in
-    λ e f z. size-full a.most l.input (omega (arith, l.invariant.0.long)) (ap (λ (w : List ℕ). frame_size a.most w false) (sym all) ∙ z)
+    λ e z. size-full a.most l.input (omega (arith, l.invariant.0.long)) (ap (λ (w : List ℕ). frame_size a.most w false) (sym all) ∙ z)
 
 pub returns-then-frame_size-gt0-clause-behind : goal.returns-then-frame_size-gt0-clause-behind
-returns-then-frame_size-gt0-clause-behind g c = filled_on c.loop-filled.invariant.0 c.read_more-got.ensures.behind
+returns-then-frame_size-gt0-clause-behind g c = filled_on c.loop-filled.invariant.0 c.in_ok-count.ensures.behind
 
 pub returns-then-frame_size-gt0-clause-bytes : goal.returns-then-frame_size-gt0-clause-bytes
 returns-then-frame_size-gt0-clause-bytes g c =
     let l = c.loop-filled in
-    let r = c.read_more-got.ensures in
-    consumes_on _ _ _ l.invariant.0.least r.behind l.invariant.2 r.bytes
-
-pub loop-filled-preserved : goal.loop-filled-preserved
-loop-filled-preserved g c =
-    let l = c.loop-filled in
-    let r = c.read_more-got.ensures in
-    let size = c.frame_size.ensures in
-    (filled_on l.invariant.0 r.behind, sym size ∙ omega arith, consumes_on _ _ _ l.invariant.0.least r.behind l.invariant.2 r.bytes)
-
-pub returns-then-got-clause-bytes : goal.returns-then-got-clause-bytes
-returns-then-got-clause-bytes g c =
-    let l = c.loop-filled in
-    let r = c.read_more-got in
-    let none : l.filled + r.result.count ≡ l.filled = omega (arith, r.ensures.none c.if-got.true) in
-    consumes-not _ _ _ l.invariant.0.least none r.ensures.behind l.invariant.2 r.ensures.bytes
-
-pub returns-then-got-eq0-clause-behind : goal.returns-then-got-eq0-clause-behind
-returns-then-got-eq0-clause-behind g c = filled-not c.loop-filled.invariant.0 c.read_more-got.ensures.behind
-
-pub returns-then-got-eq0-clause-bytes : goal.returns-then-got-eq0-clause-bytes
-returns-then-got-eq0-clause-bytes g c =
-    let l = c.loop-filled in
-    let r = c.read_more-got in
-    let none : l.filled + r.result.count ≡ l.filled = omega (arith, c.if-got-eq0.true) in
-    consumes-not _ _ _ l.invariant.0.least none r.ensures.behind l.invariant.2 r.ensures.bytes
+    let r = c.in_ok-count.ensures in
+    consumes_on _ _ _ _ l.invariant.0.least r.behind l.invariant.2 r.bytes.0

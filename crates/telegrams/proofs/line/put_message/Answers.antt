@@ -1,36 +1,39 @@
 -- `telegrams::line::put_message` meets its contract: the writer refuses no message that can be sent and has room.
 -- Assumes nothing.
-use mathlib.Core.Path.{sym, ap, ◌∙◌}
+use mathlib.Core.Path.{◌≡◌}
 use native.Mathlib.Omega.{arith}
-use Rattle.telegram.specs.Telegram.{write_refusal, write_count}
+use lib.ListN.{length}
+use Rattle.std.specs.Prelude.{Err}
+use Rattle.telegram.specs.Telegram.{telegram_of, write_refusal}
+use Rattle.telegram.specs.declared.message.WriteError.{WriteError}
+use Rattle.telegram.specs.declared.message.WriteError.TheVariants.{OutOfRange, NoRoom}
 use Rattle.telegrams.proofs.LineLaws.{not-refused, counted, message_put}
 use Rattle.telegram.proofs.Kept.{length-telegram, size-most}
 use Rattle.telegrams.proofs.line.put_message.Goals as goal
+use Rattle.telegrams.proofs.line.put_message.Goals.{In-Ok}
+
+-- the count is the telegram's length
+count : (c : In-Ok) → c.in-Ok.n ≡ length (telegram_of c.args.code c.args.message)
+count c =
+    let a = c.args in
+    counted a.code a.message c.requires.0 a.text.now a.at c.requires.1 c.in-Ok.ensures.value
 
 pub overflow_add-result : goal.overflow_add-result
 overflow_add-result c =
-    let d = c in
-    let a = d.args in
-    let n = sym (ap write_count c.in-Count.is) ∙ counted a.code a.message d.requires.0 a.text.now a.at d.requires.1 c.write-w.ensures.value in
-    omega (arith, n, length-telegram a.code a.message, size-most a.message)
+    let a = c.args in
+    omega (arith, count (goal.at.overflow_add-result c).In-Ok, length-telegram a.code a.message, size-most a.message)
 
-pub returns-in-Count : goal.returns-in-Count
-returns-in-Count c =
-    let d = c in
-    let a = d.args in
-    let n = sym (ap write_count c.in-Count.is) ∙ counted a.code a.message d.requires.0 a.text.now a.at d.requires.1 c.write-w.ensures.value in
-    message_put a.code a.message d.requires.0 a.text.now a.at d.requires.1 c.write-w.ensures.buffer_after n
+pub returns-in-Ok : goal.returns-in-Ok
+returns-in-Ok c =
+    let a = c.args in
+    message_put a.code a.message c.requires.0 a.text.now a.at c.requires.1 c.in-Ok.ensures.buffer_after (count (goal.at.returns-in-Ok c).In-Ok)
 
-pub returns-in-OutOfRange : goal.returns-in-OutOfRange
-returns-in-OutOfRange c =
-    let d = c in
-    let a = d.args in
-    let n = not-refused a.code a.message d.requires.0 a.text.now a.at d.requires.1 c.write-w.ensures.value in
-    absurd (omega (arith, n, ap write_refusal c.in-OutOfRange.is))
+-- 10 or 16
+some-refusal : (e : WriteError) → write_refusal (Err e) ≡ 0 → ⊥
+some-refusal OutOfRange h = omega arith
+some-refusal NoRoom h = omega arith
 
-pub returns-in-NoRoom : goal.returns-in-NoRoom
-returns-in-NoRoom c =
-    let d = c in
-    let a = d.args in
-    let n = not-refused a.code a.message d.requires.0 a.text.now a.at d.requires.1 c.write-w.ensures.value in
-    absurd (omega (arith, n, ap write_refusal c.in-NoRoom.is))
+pub returns-in-Err : goal.returns-in-Err
+returns-in-Err c =
+    let a = c.args in
+    absurd (some-refusal c.in-Err.error (not-refused a.code a.message c.requires.0 a.text.now a.at c.requires.1 c.in-Err.ensures.value))

@@ -1,11 +1,11 @@
--- `streams::report::put_failure` meets its contract: a number of 64 bits has 20 digits at most.
+-- `streams::failure::put_failure` meets its contract: a number of 64 bits has 20 digits at most.
 -- Assumes nothing.
 use Rattle.std.proofs.Common.{◌≡◌, ℕ, List, [], ◌∷◌, ◌++◌, append_assoc, arith, length-append}
 use Rattle.text.specs.Ascii.{ascii}
 use Rattle.text.specs.Decimal.{decimal}
 use Rattle.text.proofs.Kept.{also, puts-length, decimal-length}
 use Rattle.streams.specs.Failures.{failure_line}
-use Rattle.streams.proofs.report.put_failure.Goals as goal
+use Rattle.streams.proofs.failure.put_failure.Goals as goal
 
 parts : (w : List ℕ) (n : ℕ) → (w ++ (58 ∷ 32 ∷ 101 ∷ 114 ∷ 114 ∷ 111 ∷ 114 ∷ 32 ∷ [])) ++ (decimal n ++ (10 ∷ [])) ≡ failure_line w n
 unfolding failure_line ascii
