@@ -27,7 +27,7 @@ use Rattle.set_rules.specs.Refusals.{asked_in, refusal_of}
 use Rattle.set_rules.specs.Records.{Delivery, delivered, record_for, record_size, to_each, records_of, space_of}
 use Rattle.set_rules.specs.SetRules.{Effect, on_channel, sends_of, on_tick, on_handover, answers_in, on_request, ways, accepted_by, accepted}
 use Rattle.set_rules.specs.Feeds.{Outcome, Item, Gives, outcome_of, step_of, step_by, run, after}
-use Rattle.set_rules.specs.RecordLaws.{EvenSized, AllEven, RecordIsLong, SpaceIsLength, SpaceInTurn, EvenSends, EvenAll, without_lowest, OneMoreHalf, LowestBit, GivesAlike, LeftAsWas, NoRoom}
+use Rattle.set_rules.specs.RecordLaws.{EvenSized, AllEven, RecordIsLong, SpaceIsLength, SpaceInTurn, EvenSends, EvenAll, without_lowest, OneMoreHalf, LowestBit, GivesAlike, RefusalLeaves, LeftAsWas, NoRoom}
 use Rattle.set_rules.specs.Promises.{Refused, Counted, Written, HandoverMakesNew, Renewed}
 use Rattle.set_state.specs.declared.state.Answer.{Answer}
 use Rattle.set_state.specs.declared.state.Desk.{Desk}
@@ -189,6 +189,9 @@ written s i =
 
 pub gives_as : {o o' : Outcome} {r : Answer} {b a : List ℕ} → GivesAlike o o' r b a
 gives_as {o} {o'} {r} {b} {a} e h = subst (λ (x : Outcome). Gives x r b a) e h
+
+pub refusal_leaves : RefusalLeaves
+refusal_leaves s n b = (refl, refl)
 
 pub left_as_was : LeftAsWas
 left_as_was s n b = record { answer = refl; bytes = refl }

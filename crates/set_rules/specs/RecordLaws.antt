@@ -2,6 +2,7 @@
 -- `proofs/Kept.antt`. They are proved, and no rule rests on them.
 use Rattle.std.specs.Prelude.{ℕ, zero, suc, ◌+◌, ◌/◌, ◌%◌, ◌<◌, List, ◌++◌, ◌≡◌, eqb, length, Ok, Err}
 use Rattle.laws.specs.Each.{Each}
+use Rattle.telegram.specs.Telegram.{over}
 use Rattle.channel.specs.State.{is_in}
 use Rattle.channel.specs.declared.state.Channel.{Channel}
 use Rattle.channel.specs.declared.state.Send.{Send}
@@ -9,7 +10,7 @@ use Rattle.line_rules.specs.Notices.{Content}
 use Rattle.set_rules.specs.Plan.{desks_in, channels_in}
 use Rattle.set_rules.specs.Records.{Delivery, delivered, record_for, record_size, records_of, space_of}
 use Rattle.set_rules.specs.SetRules.{Effect, sends_of}
-use Rattle.set_rules.specs.Feeds.{Outcome, Gives, refuse, emit}
+use Rattle.set_rules.specs.Feeds.{Outcome, answer_of, Gives, refuse, emit}
 use Rattle.set_state.specs.Entry.{number_of}
 use Rattle.set_state.specs.declared.state.Answer.{Answer}
 use Rattle.set_state.specs.declared.state.Refusal.{Refusal}
@@ -63,7 +64,11 @@ LowestBit = (d m : ℕ) → is_in d m ≡ eqb (without_lowest d m % 2) 1
 abbrev pub GivesAlike : Outcome → Outcome → Answer → List ℕ → List ℕ → Type 0
 GivesAlike o o' r b a = o ≡ o' → Gives o r b a → Gives o' r b a
 
--- A refusal leaves set and buffer (`left_as_was`), and what there is no room for is refused (`no_room`).
+-- A refusal leaves set and buffer, whatever its number (`refusal_leaves`), so the answer too (`left_as_was`), and what there is no room
+-- for is refused (`no_room`).
+abbrev pub RefusalLeaves : Type 0
+RefusalLeaves = (s : LineSet) (n : ℕ) (b : List ℕ) → (answer_of (refuse n s) ≡ record { set = s; count = 0; refusal = n }) × (b ≡ over (refuse n s).bytes b)
+
 abbrev pub LeftAsWas : Type 0
 LeftAsWas = (s : LineSet) (n : Refusal) (b : List ℕ) → Gives (refuse (number_of n) s) (record { set = s; reply = Err n }) b b
 
