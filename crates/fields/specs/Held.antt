@@ -1,12 +1,22 @@
 -- How the code holds fields and lists of them, and what it reads of them. None of it is a rule.
-use Rattle.std.specs.Prelude.{ℕ, List, [], ◌∷◌, map, ◌&&◌, cond, leb, eqb, length, take, drop, replicate, Option, Some, None}
+use Rattle.std.specs.Prelude.{ℕ, ◌/◌, ◌%◌, List, [], ◌∷◌, map, Bool, true, false, ◌&&◌, cond, leb, eqb, length, take, drop, get_or, replicate, Option, Some, None}
 use Rattle.std.proofs.lemmas.List.Edits.{sets}
 use Rattle.numerals.specs.Held.{as_number}
-use Rattle.fields.specs.Fields.{Field, length4, code, channel, base, call_type, direction, reason, len, number, flag, year, month, day, hour, minute, second, body_ok, values_in, all_in, body_size}
+use Rattle.fields.specs.Fields.{Field, plain, length4, code, channel, base, call_type, direction, reason, len, number, flag, year, month, day, hour, minute, second, body_ok, values_in, all_in, body_size}
 use Rattle.fields.specs.declared.rules.Field.{Field as Named}
-use Rattle.fields.specs.declared.rules.Field.TheVariants.{Length, Code, Channel, Base, Kind, Direction, Reason, Len, Number, Flag, Year, Month, Day, Hour, Minute, Second}
+use Rattle.fields.specs.declared.rules.Field.TheVariants.{Length, Code, Channel, Base, Kind, Direction, Reason, Len, Number, Flag, Year, Month, Day, Hour, Minute, Second, Numbered}
 
--- a field by its name in the code
+-- A field that has no name in the code goes by a number: ten times its rule's place in this list, plus its width. Where the list has
+-- no such place it allows any number.
+abbrev pub numbered : List Field
+numbered =
+    plain 0 ∷ code ∷ channel ∷ base ∷ call_type ∷ direction ∷ reason ∷ len ∷ flag ∷ year ∷ month ∷ day ∷ hour ∷ minute ∷ []
+
+abbrev pub is_named : Named → Bool
+is_named (Numbered k) = false
+is_named _ = true
+
+-- a field by its name, or by its number
 abbrev pub field_of : Named → Field
 field_of Length = length4
 field_of Code = code
@@ -24,6 +34,7 @@ field_of Day = day
 field_of Hour = hour
 field_of Minute = minute
 field_of Second = second
+field_of (Numbered k) = record { width = k % 10; allows = (get_or numbered (k / 10) (plain 0)).allows }
 
 abbrev pub fields_of : List Named → List Field
 fields_of = map field_of

@@ -35,7 +35,7 @@ abbrev pub FieldsRefused : Type 0
 FieldsRefused = (fs : List Field) (b : List ℕ) → fields_in fs b ≡ None → length fs ≤ 11 → body_ok fs 0 0 b ≡ false
 
 -- At most eleven fields of at most nine digits each read alike from what the bytes of each spell (`fields-spelt`), and so do those that
--- the code names (`named-spelt`).
+-- the code names or numbers (`named-spelt`).
 abbrev pub ReadBySpelling : Type 0
 ReadBySpelling =
     (fs : List Field) (b : List ℕ) → Each (λ (f : Field). f.width ≤ 9) fs → length fs ≤ 11 → fields_in fs b ≡ fields_by_spelling fs b
