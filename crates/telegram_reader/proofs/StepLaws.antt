@@ -1,11 +1,11 @@
--- The reader's steps together are `read_in`.
+-- The reader's steps together are `read_in`, and what they are where no row has the identifier.
 -- Assumes nothing.
 use Prim.Native.Nat.{ℕ, ◌≤◌}
 use mathlib.Core.List.{List, [], ◌∷◌, map}
 use mathlib.Core.Path.{◌≡◌, refl, sym, ap, ◌∙◌}
 use lib.Dec.{eqb, lit≤}
 use lib.ListN.{length, get_or}
-use borrow.Author.Tests.{eqb-true}
+use borrow.Author.Tests.{eqb-true, ne_eqb}
 use Rattle.std.specs.Prelude.{Some, None, Ok, Err}
 use Rattle.std.proofs.lemmas.Option.{none-some, same_Some}
 use Rattle.laws.proofs.Lists.{tab, tab-all}
@@ -21,12 +21,12 @@ use Rattle.telegram_reader.specs.declared.reader.Identifier.TheVariants.{TimeNot
 
 -- ---- the row of an identifier
 
-unlisted : (ks : List Identifier) (c i : ℕ) (b : List ℕ) → known_in ks i ≡ None → read_in (map row_for ks) c i b ≡ Err (Unknown c (Some i))
-unlisted [] c i b e = refl
-unlisted (k ∷ ks) c i b e =
+unknown_in : (ks : List Identifier) (c i : ℕ) (b : List ℕ) → known_in ks i ≡ None → read_in (map row_for ks) c i b ≡ Err (Unknown c (Some i))
+unknown_in [] c i b e = refl
+unknown_in (k ∷ ks) c i b e =
     by_test (eqb i (row_for k).id)
     (λ h. absurd (none-some k (sym (rw h at e))))
-    (λ h. rw h (unlisted ks c i b (rw h at e)))
+    (λ h. rw h (unknown_in ks c i b (rw h at e)))
 
 listed : (ks : List Identifier) (c i : ℕ) (b : List ℕ) (k : Identifier) → known_in ks i ≡ Some k
     → (i ≡ (row_for k).id) × (read_in (map row_for ks) c i b ≡ read_row (row_for k) c b)
@@ -63,7 +63,7 @@ fits CaptureState = record { few = lit≤ tt; same = λ b. refl }
 -- ---- the steps, put together
 
 pub read_unknown : (c i : ℕ) (b : List ℕ) → known_in identifiers i ≡ None → read_in table c i b ≡ Err (Unknown c (Some i))
-read_unknown c i b e = unlisted identifiers c i b e
+read_unknown c i b e = unknown_in identifiers c i b e
 
 module _ (c i : ℕ) (b : List ℕ) (k : Identifier) (e : known_in identifiers i ≡ Some k) where
   pub read_none : fields_in (row_for k).body b ≡ None → read_in table c i b ≡ Err (Body c i)
@@ -75,6 +75,28 @@ module _ (c i : ℕ) (b : List ℕ) (k : Identifier) (e : known_in identifiers i
   read_some v q =
       let f = fields-found (row_for k).body b v q in
       (listed identifiers c i b k e).1 ∙ rw (f.0, f.1, (fits k).same b)
+
+-- ---- an identifier that no row has
+
+-- what a match on the identifiers of the rows leaves to its last arm: D, and that none of them is i
+abbrev pub Apart : List Row → ℕ → Type 0 → Type 0
+Apart [] i D = D
+Apart (r ∷ rs) i D = Apart rs i (D × (i ≡ r.id → ⊥))
+
+pub record Unlisted (ks : List Identifier) (i : ℕ) : Type 0 where
+  pub known : known_in ks i ≡ None
+  pub reading : (c : ℕ) (b : List ℕ) → read_in (map row_for ks) c i b ≡ Err (Unknown c (Some i))
+
+apart_unknown : (ks : List Identifier) (i : ℕ) (D : Type 0) → Apart (map row_for ks) i D → D × (known_in ks i ≡ None)
+apart_unknown [] i D a = (a, refl)
+apart_unknown (k ∷ ks) i D a =
+    let u = apart_unknown ks i (D × (i ≡ (row_for k).id → ⊥)) a in
+    (u.0.0, simp (ne_eqb i (row_for k).id u.0.1, u.1))
+
+pub unlisted : (i : ℕ) → Apart table i (Unit {0}) → Unlisted identifiers i
+unlisted i a =
+    let e = (apart_unknown identifiers i (Unit {0}) a).1 in
+    record { known = e; reading = λ c b. read_unknown c i b e }
 
 -- ---- bytes one by one
 
