@@ -25,11 +25,11 @@ use Rattle.set_rules.specs.SetRules.{Effect, accepted_by, accepted, on_channel, 
 use Rattle.set_rules.specs.Feeds.{refuse, emit, outcome_of}
 use Rattle.set_state.specs.declared.state.Desk.{Desk}
 use Rattle.set_state.specs.declared.state.Refusal.{Refusal}
-use Rattle.set_state.specs.declared.state.Refusal.TheVariants.{Length, Version, Payload, NoPlan, AlreadyPlanned, BadPlan, UnknownDesk, Header, Identifier, Body, Phase, NotEntitled, WrongNumber, NotHolder, Again, NoRoom, CannotRing}
 use Rattle.set_state.specs.Entry.{number_of, desk_from}
 use Rattle.set_state.specs.declared.state.Entry.{Entry}
 use Rattle.set_state.specs.declared.state.Entry.TheVariants.{Telegram, Press, Cut, MobileOn, MobileOff, Tick, Plan, Handover, MobileCall, MobileCancel}
 use Rattle.set_state.specs.declared.state.LineSet.{LineSet}
+use Rattle.set_state.proofs.Kept.{numbered_from_one}
 use Rattle.set_state.specs.declared.state.LinkRequest.{LinkRequest}
 use Rattle.set_state.specs.declared.state.Request.{Request}
 use Rattle.set_state.specs.declared.state.Request.TheVariants.{OfLink as LinkIs, OnChannel as ChannelIs, AnswersRing as RingIs, Foreign}
@@ -75,6 +75,15 @@ module _ (s : LineSet) (e : List ℕ) (x : ReadEntry) (room : ℕ) where
   pub outcome_accepted : (f : Effect) → refusal_of s e x ≡ 0 → accepted s e x ≡ f → emit s f room ≡ outcome_of s e x room
   unfolding outcome_of
   outcome_accepted f h k = sym (rw (h, k) refl)
+
+-- what was refused as it was read
+pub unread_as : (v : Lookup) (s : LineSet) (e : List ℕ) (r : Refusal) (m room : ℕ) → Err m ≡ asked_of v e (Err r) → refuse m s ≡ outcome_of s e (Err r) room
+unfolding asked_of refusal_of
+unread_as v s e r m room a =
+    let z = ne_eqb (number_of r) 0 (numbered_from_one r) in
+    let b : ◌≡◌ {A = Result Asked ℕ} (Err m) (Err (number_of r)) = rw z at a in
+    let i : m ≡ number_of r = cc in
+    outcome_refused s e (Err r) room m (rw z (sym i)) (λ h. numbered_from_one r (sym i ∙ h))
 
 module _ (planned : Bool) (ds : List Desk) (n : ℕ) (cs : List Channel) (k : ℕ) (e : List ℕ) (y : Entry) (found : Bool) (c : Channel) where
   abbrev x : ReadEntry

@@ -4,6 +4,7 @@ use Rattle.std.specs.Prelude.{ℕ, List, Bool, ◌≡◌, Ok, Err}
 use Rattle.channel.specs.declared.state.Channel.{Channel}
 use Rattle.channel.specs.declared.state.Send.{Send}
 use Rattle.sends.specs.Scripts.{heard}
+use Rattle.set_rules.specs.Entries.{ReadEntry}
 use Rattle.set_rules.specs.Records.{delivered, records_of, space_of}
 use Rattle.set_rules.specs.SetRules.{on_link}
 use Rattle.set_rules.specs.Feeds.{refuse, emit, outcome_of}
@@ -23,11 +24,11 @@ abbrev pub SameRecords : Type 0
 SameRecords =
     (ds : List Desk) (ch : ℕ) (ss ts : List Send) → heard ss ≡ heard ts → records_of ds (delivered ds ch ss) ≡ records_of ds (delivered ds ch ts)
 
--- An entry that asks for nothing is refused (`IsRefused-as`).
+-- An entry that asks for nothing is refused, one that could not be read too (`refused_as`).
 abbrev pub RefusedAs : Type 0
 RefusedAs =
-    (planned : Bool) (ds : List Desk) (n : ℕ) (cs : List Channel) (k : ℕ) (e : List ℕ) (x : Entry) (found : Bool) (c : Channel) (m room : ℕ)
-    → Err m ≡ asked_of (seen planned ds n found c) e (Ok x) → refuse m (set_with planned ds n cs k) ≡ outcome_of (set_with planned ds n cs k) e (Ok x) room
+    (planned : Bool) (ds : List Desk) (n : ℕ) (cs : List Channel) (k : ℕ) (e : List ℕ) (x : ReadEntry) (found : Bool) (c : Channel) (m room : ℕ)
+    → Err m ≡ asked_of (seen planned ds n found c) e x → refuse m (set_with planned ds n cs k) ≡ outcome_of (set_with planned ds n cs k) e x room
 
 -- One that asks something of a link is what the rule of links gives (`linked_as`).
 abbrev pub LinkedAs : Type 0

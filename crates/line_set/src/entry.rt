@@ -104,7 +104,7 @@ fn ask(set: &mut LineSet, x: Entry, entry: &[u8], buffer: &mut [u8]) -> Result<u
 {
     let desks = set.desks;
     let n = set.size.desks;
-    let asked = requests::asked_of(x, set.planned, entry, desks, n)?;
+    let asked = requests::asked_of(Ok(x), set.planned, entry, desks, n)?;
     match asked {
         Asked::OfLink(request) => link(set, x.desk(), request, buffer),
         Asked::OfLine(request) => {

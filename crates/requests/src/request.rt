@@ -121,8 +121,8 @@ fn is_from_desk(x: Entry) -> bool
     }
 }
 
-// What an entry asks that is about one desk or one channel: any but a plan.
-pub fn asked_of(
+// What an entry that was read asks.
+fn asked_of_entry(
     x: Entry,
     planned: bool,
     entry: &[u8],
@@ -156,4 +156,20 @@ pub fn asked_of(
         number: Number::NONE,
         event,
     }))
+}
+
+// What an entry asks that is about one desk or one channel: any but a plan. Bytes that were refused as they were read ask for nothing.
+pub fn asked_of(
+    x: Result<Entry, Refusal>,
+    planned: bool,
+    entry: &[u8],
+    desks: [Desk; 4],
+    n: u8,
+) -> Result<Asked, Refusal>
+    ensures { (found : Bool) (c : Channel) → (entry_kind x ≡ 7 → ⊥) → numbered result ≡ asked_of (seen planned desks n found c) entry.now x }
+{
+    match x {
+        Ok(x) => asked_of_entry(x, planned, entry, desks, n),
+        Err(refusal) => Err(refusal),
+    }
 }

@@ -23,7 +23,7 @@ returns-in_err-asked c =
     let s = c.args.set.now in
     let e : c.from_residual.result ≡ Err c.in_err-asked.field-0.0 = search rules in
     rw e
-    (gives_as (refused_as s.planned s.desks s.size.desks s.channels s.size.channels c.args.entry.now c.args.x true no_channel _ (length c.args.buffer.now) (c.in_err-asked.ensures true no_channel (λ k. c.requires.no_plan (is_plan _ k))))
+    (gives_as (refused_as s.planned s.desks s.size.desks s.channels s.size.channels c.args.entry.now (Ok c.args.x) true no_channel _ (length c.args.buffer.now) (c.in_err-asked.ensures true no_channel (λ k. c.requires.no_plan (is_plan _ k))))
     (left_as_was s c.in_err-asked.field-0.0 c.args.buffer.now))
 
 pub returns-in-OfLink : goal.returns-in-OfLink
