@@ -8,7 +8,7 @@ use Rattle.set_state.specs.declared.state.Entry.{Entry}
 
 -- what an entry of a kind asks for, or refusal 3
 unfoldable pub payload_in : ℕ → List ℕ → ReadEntry
-payload_in k e = cond (payload_ok k e) (Ok (payload k e)) (Err Payload)
+payload_in k e = cond (payload_ok k e) (payload k e) (Err Payload)
 
 -- the channel of a kind whose payload is one
 unfoldable pub line_in : List ℕ → Result ℕ Refusal

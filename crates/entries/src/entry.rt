@@ -28,11 +28,7 @@ fn read_press(entry: &[u8]) -> Result<Entry, Refusal>
     }
     let desk = entry[4];
     let channel = entry[5];
-    Ok(Entry::Press {
-        desk,
-        channel,
-        on: on == 1,
-    })
+    Ok(Entry::Press { desk, channel, on })
 }
 
 fn read_cut(entry: &[u8]) -> Result<Entry, Refusal>

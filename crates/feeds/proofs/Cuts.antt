@@ -9,6 +9,7 @@ use lib.Dec.{eqb, leb}
 use lib.ListN.{length, take, drop, get_or, length-take}
 use lib.Seq.{take_all, take-take, get_or-take}
 use borrow.Author.Tests.{leb-true, leb-false, lt-leb, le-leb}
+use Rattle.std.specs.Prelude.{Ok, Err}
 use Rattle.laws.specs.Each.{Each}
 use Rattle.laws.proofs.Each.{◌▹◌}
 use Rattle.laws.proofs.Tests.{by_test, either}
@@ -18,11 +19,13 @@ use Rattle.frames.specs.Frames.{frame_size}
 use Rattle.frames.proofs.Kept.{first_frame, size-some, size-long, size_cuts}
 use Rattle.set_state.specs.Entry.{refusal_in}
 use Rattle.set_state.specs.declared.state.LineSet.{LineSet}
-use Rattle.set_rules.specs.Entries.{ReadEntry, measured, payload_ok, read_entry}
+use Rattle.set_rules.specs.Entries.{ReadEntry, measured, payload, payload_ok, read_entry}
 use Rattle.set_rules.specs.Refusals.{Lookup, Test, table, first_of, refusal_of}
 use Rattle.set_rules.specs.Records.{space_of}
 use Rattle.set_rules.specs.SetRules.{accepted}
 use Rattle.set_rules.specs.Feeds.{outcome_of, step_of}
+use Rattle.set_rules.specs.RecordLaws.{OfKind}
+use Rattle.set_rules.proofs.Kept.{payload_of_kind}
 use Rattle.feeds.specs.Listing.{entries_of, entries_in}
 use Rattle.feeds.specs.Promises.{RefusedWithOne, RefusedWithOneOnly, FirstEntry}
 
@@ -50,10 +53,18 @@ numbered =
 abbrev Asks : ReadEntry → Type 0
 Asks x = NotOne (refusal_in x)
 
+payload_right : (k : ℕ) (e : List ℕ) → Asks (payload k e)
+payload_right k e = go (payload k e) (payload_of_kind k e)
+  where
+    go : (x : ReadEntry) → OfKind k x → Asks x
+    go (Ok x) h z = omega arith
+    go (Err r) h z = let f : ◌≡◌ {A = ℕ} 3 1 = rw h at z in omega arith
+
 reads-right : (e : List ℕ) → measured e ≡ true → Asks (read_entry e)
 unfolding read_entry
 reads-right e m =
-    rw m (either Asks (eqb (byte e 2) 1) _ _ (either Asks (payload_ok (byte e 3) e) _ _ (λ z. omega arith) (λ z. omega arith)) (λ z. omega arith))
+    let k = byte e 3 in
+    rw m (either Asks (eqb (byte e 2) 1) _ _ (either Asks (payload_ok k e) _ _ (payload_right k e) (λ z. omega arith)) (λ z. omega arith))
 
 module _ (s : LineSet) (e : List ℕ) (room : ℕ) (x : ReadEntry) (p : Asks x) where
   refusal-not : NotOne (refusal_of s e x)

@@ -26,11 +26,11 @@ ask_refusal d number own found c =
 abbrev pub cut_refusal : ℕ → Bool → Channel → ℕ
 cut_refusal d found c = cond (not (usable d found c)) 12 (cond (not (held_by d c.holder)) 14 0)
 
-abbrev pub press_refusal : ℕ → Bool → Bool → Channel → ℕ
+abbrev pub press_refusal : ℕ → ℕ → Bool → Channel → ℕ
 press_refusal d on found c =
     cond (not (usable d found c)) 12
     (cond (not (held_by d c.holder)) 14
-    (cond (cond on (is_pressed c) (not (is_pressed c))) 15 0))
+    (cond (eqb on (cond (is_pressed c) 1 0)) 15 0))
 
 abbrev pub mobile_on_refusal : Option ℕ → Bool → Channel → ℕ
 mobile_on_refusal number found c =

@@ -1,5 +1,5 @@
 // The refusals from 12 on, by the channel that an entry names.
-ghost use Rattle.std.specs.Prelude.{◌≡◌, cond, not};
+ghost use Rattle.std.specs.Prelude.{◌≡◌, cond, eqb};
 ghost use Rattle.channel.specs.State.{is_held};
 ghost use Rattle.set_rules.specs.Refusals.{is_caller, is_idle};
 ghost use Rattle.set_state.specs.Entry.{refusal_in};
@@ -19,11 +19,14 @@ fn is_caller(number: Option<u32>) -> bool
 }
 
 // Press on while on, or off while off.
-fn is_again(on: bool, presser: Option<u8>) -> bool
-    ensures { result ≡ cond on (is_held presser) (not (is_held presser)) }
+fn is_again(on: u8, presser: Option<u8>) -> bool
+    ensures { result ≡ eqb on (cond (is_held presser) 1 0) }
 {
-    let pressed = channel::is_held(presser);
-    if on { pressed } else { !pressed }
+    if channel::is_held(presser) {
+        on == 1
+    } else {
+        on == 0
+    }
 }
 
 // Nobody holds the channel, no call is open on it, and no mobile talks or rings.
@@ -75,7 +78,7 @@ fn judge_cut(d: u8, found: bool, c: Channel) -> Result<(), Refusal>
     }
 }
 
-fn judge_press(d: u8, on: bool, found: bool, c: Channel) -> Result<(), Refusal>
+fn judge_press(d: u8, on: u8, found: bool, c: Channel) -> Result<(), Refusal>
     ensures { refusal_in result ≡ press_refusal d on found c }
 {
     judge_cut(d, found, c)?;

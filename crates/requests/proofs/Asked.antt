@@ -138,7 +138,7 @@ no_telegram Handover p = refl
 no_telegram (MobileCall ch b n m) p = refl
 no_telegram (MobileCancel ch) p = refl
 
-pub no_desk_asks : (x : Entry) → ((d : ℕ) → x ≡ Letter d → ⊥) → ((d ch : ℕ) (on : Bool) → x ≡ Press d ch on → ⊥) → ((d ch : ℕ) → x ≡ Cut d ch → ⊥) → false ≡ from_desk (Ok x)
+pub no_desk_asks : (x : Entry) → ((d : ℕ) → x ≡ Letter d → ⊥) → ((d ch on : ℕ) → x ≡ Press d ch on → ⊥) → ((d ch : ℕ) → x ≡ Cut d ch → ⊥) → false ≡ from_desk (Ok x)
 unfolding entry_kind
 no_desk_asks (Letter d) p q r = absurd (p d refl)
 no_desk_asks (Press d ch on) p q r = absurd (q d ch on refl)
@@ -152,7 +152,7 @@ no_desk_asks (MobileCall ch b n m) p q r = refl
 no_desk_asks (MobileCancel ch) p q r = refl
 
 pub off_else : (ds : List Desk) (n : ℕ) (own : Number) (x : Entry)
-    → ((d ch : ℕ) (on : Bool) → x ≡ Press d ch on → ⊥) → ((d ch : ℕ) → x ≡ Cut d ch → ⊥) → ((ch b : ℕ) (k : Option ℕ) → x ≡ MobileOn ch b k → ⊥)
+    → ((d ch on : ℕ) → x ≡ Press d ch on → ⊥) → ((d ch : ℕ) → x ≡ Cut d ch → ⊥) → ((ch b : ℕ) (k : Option ℕ) → x ≡ MobileOn ch b k → ⊥)
     → ((ch b : ℕ) (k m : Option ℕ) → x ≡ MobileCall ch b k m → ⊥) → ((ch : ℕ) → x ≡ MobileCancel ch → ⊥) → GoesOff ≡ event_of ds n (Ok x) own
 unfolding entry_kind
 off_else ds n own (Letter d) p q r s t = refl

@@ -38,7 +38,7 @@ ring_of ds n called base number = Ring (called_place ds n called) base (number_i
 -- what an entry that is no telegram makes happen on its channel, if its desk has this number
 abbrev pub event_of : List Desk → ℕ → ReadEntry → Number → Event
 event_of ds n x own =
-    cond (is_kind 2 x) (cond (entry_on x) (PressOn (entry_desk x) own) PressOff)
+    cond (is_kind 2 x) (cond (eqb (entry_on x) 1) (PressOn (entry_desk x) own) PressOff)
     (cond (is_kind 3 x) Cut
     (cond (is_kind 4 x) (MobileOn (entry_base x) (number_in (entry_number x)))
     (cond (is_kind 9 x) (ring_of ds n (entry_called x) (entry_base x) (entry_number x))

@@ -47,7 +47,7 @@ fn event_of(x: Entry, own: Number, desks: [Desk; 4], n: u8) -> Event
 {
     match x {
         Entry::Press { desk, on, .. } => {
-            if on {
+            if on == 1 {
                 Event::PressOn { desk, number: own }
             } else {
                 Event::PressOff

@@ -5,6 +5,7 @@ use Prim.Native.Nat.{ℕ}
 use mathlib.Core.List.{List, [], ◌∷◌, ◌++◌, map, map-append}
 use mathlib.Core.Bool.{Bool, true, cond}
 use mathlib.Core.Path.{◌≡◌, refl, sym, ap, ◌∙◌}
+use lib.Dec.{eqb}
 use lib.ListN.{length, get_or, take, drop, set, length-map, get_or-map}
 use Rattle.laws.specs.Each.{Each}
 use Rattle.laws.proofs.Each.{◌▹◌}
@@ -284,7 +285,7 @@ module _ (B : ℕ) where
       pick_matched (λ f g. shown f ≡ shown g) (entry_kind x) (effect (hide_set s) (hide_set s) []) (effect s s []) (ways t (hide_set s) e x) (ways t s e x) refl
       (rw (hides_twice s.channels))
       (request-hide t s (entry_desk x) (asked_in (entry_desk x) (read_telegram (telegram_in e)))
-      ▹ on-hide s (entry_channel x) (cond (entry_on x) (PressOn (entry_desk x) (own_of s.desks (entry_desk x))) PressOff)
+      ▹ on-hide s (entry_channel x) (cond (eqb (entry_on x) 1) (PressOn (entry_desk x) (own_of s.desks (entry_desk x))) PressOff)
       ▹ on-hide s (entry_channel x) Cut
       ▹ on-hide s (entry_channel x) (MobileOn (entry_base x) (number_in (entry_number x)))
       ▹ on-hide s (entry_channel x) MobileOff

@@ -252,7 +252,7 @@ module _ (f : List Item) (i : Item) (ch d : ℕ) (held : (channel_at (after new_
       let here = on (entry_channel x) in
       pick_each (λ w. Stays w.after) (entry_kind x) _ (ways (answers_in s (entry_desk x) asked) s i.entry x) (inl held)
       ((λ k. request_lasts k asked refl (asked_in_lem (ForItself (entry_desk x)) (entry_desk x) (inl refl) (inr refl) r))
-      ▹ (λ k. press_lasts (entry_on x) (fits.press-fits k))
+      ▹ (λ k. press_lasts (eqb (entry_on x) 1) (fits.press-fits k))
       ▹ (λ k. here Cut (fits.cut_fits k) (λ q a. cut k (own-cut ((finds s i z).cut-held k) q) q))
       ▹ (λ k. here _ (fits.on_fits k) (λ q a. absurd a))
       ▹ (λ k. here MobileOff (fits.off-fits k) (λ q a. absurd a))

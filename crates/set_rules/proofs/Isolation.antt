@@ -41,7 +41,7 @@ use Rattle.set_state.specs.declared.state.Refusal.TheVariants.{Length, Version, 
 use Rattle.set_state.specs.declared.state.Entry.TheVariants.{Telegram, MobileOn as TalkOn, MobileCall}
 use Rattle.set_state.specs.declared.state.Request.{Request}
 use Rattle.set_state.specs.declared.state.Request.TheVariants.{OfLink, OnChannel, AnswersRing, Foreign}
-use Rattle.set_rules.specs.Entries.{measured, read_entry, size_ok, mobile_in, called_in, telegram_in, entry_kind, entry_desk, entry_channel, entry_base, entry_number, entry_called, ReadEntry}
+use Rattle.set_rules.specs.Entries.{measured, read_entry, size_ok, mobile_in, called_in, telegram_in, entry_kind, entry_desk, entry_channel, entry_on, entry_base, entry_number, entry_called, ReadEntry}
 use Rattle.set_rules.specs.Refusals.{lookup_in, is_kind, asked_in, named, named_by, is_caller, number_in, called_place, first_of, refusal_of, table}
 use Rattle.set_rules.specs.Records.{space_of}
 use Rattle.set_rules.specs.SetRules.{Effect, on_channel, is_called, caller_of, answers_ring, answers_in, on_request, accepted_by, accepted}
@@ -193,11 +193,11 @@ module _ (B : ℕ) where
   flat false b x y = refl
 
   read-talk : Reads 4
-  unfolding read_entry pick
+  unfolding read_entry pick entry_on entry_base
   read-talk e k = rw k (simp flat refl)
 
   read-call : Reads 9
-  unfolding read_entry pick
+  unfolding read_entry pick entry_on entry_base
   read-call e k = rw k (simp flat refl)
 
   read_but : (k : ℕ) (e e' : List ℕ) (d : Option ℕ) → AlikeBut 6 8 e e' → read_as k e d ≡ read_as k e' d
@@ -293,7 +293,7 @@ module _ (B : ℕ) where
   read_by e = chosen (measured e) (eqb (byte e 2) 1) (leb 5 (length e)) (telegram_by e)
 
   read-telegram : (e : List ℕ) → byte e 3 ≡ 1 → read_entry e ≡ read_by e
-  unfolding read_entry pick
+  unfolding read_entry pick entry_on entry_base
   read-telegram e k = rw k (simp shut refl)
     where
       shut : (a : Bool) → (a && true && true) ≡ a

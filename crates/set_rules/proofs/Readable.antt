@@ -2,17 +2,17 @@
 -- Assumes nothing.
 use Prim.Native.Nat.{ℕ, zero, suc, ◌+◌, ◌-◌, ◌*◌, ◌^◌, ◌≤◌, ◌<◌}
 use mathlib.Core.List.{List, [], ◌∷◌, ◌++◌, map, map-append}
-use mathlib.Core.Bool.{Bool, true, false, ◌&&◌, cond}
+use mathlib.Core.Bool.{Bool, true, false, ◌&&◌, cond, false≢true}
 use mathlib.Core.Path.{◌≡◌, refl, sym, ap, ◌∙◌}
 use native.Mathlib.Omega.{arith}
 use native.Mathlib.Nat.{pow-le-pow_right}
 use lib.Dec.{eqb, leb}
 use lib.ListN.{length, length-take, take, drop, get_or, replicate}
-use borrow.Author.Tests.{leb-true, le-leb, not-false}
+use borrow.Author.Tests.{leb-true, le-leb, eqb-false, not-false}
 use Rattle.std.specs.Prelude.{Some, None, Ok, Err}
 use Rattle.laws.specs.Each.{Each}
 use Rattle.laws.proofs.Each.{◌▹◌, each_at, each_set, each_take, each_drop, each_append, each_same}
-use Rattle.laws.proofs.Tests.{both, by_test}
+use Rattle.laws.proofs.Tests.{both, by_test, either}
 use Rattle.numerals.specs.Digits.{all_digits, value_of, digits_in}
 use Rattle.fields.specs.Fields.{all_in, between}
 use Rattle.telegram.specs.Telegram.{num, in_range, read_telegram, telegram_of}
@@ -22,7 +22,7 @@ use Rattle.telegram.specs.Telegram.{under}
 use Rattle.numerals.proofs.Kept.{value_below}
 use Rattle.telegram.proofs.Kept.{reads-back}
 use Rattle.channel.specs.State.{only, first_desks, is_in, is_held}
-use Rattle.line_rules.specs.Rules.{happens}
+use Rattle.line_rules.specs.Rules.{happens, is_pressed}
 use Rattle.line_rules.specs.Notices.{Content, telegram, contact, content_for}
 use Rattle.channel.specs.declared.state.Channel.{Channel}
 use Rattle.channel.specs.declared.state.Event.{Event}
@@ -30,8 +30,9 @@ use Rattle.channel.specs.declared.state.Event.TheVariants.{Cut, PressOn, PressOf
 use Rattle.channel.specs.declared.state.Send.{Send}
 use Rattle.set_state.specs.State.{new_set, no_desk, no_channel, own_of, listeners_of, channels_of, place_in, channel_at, time_told, answered, with_link}
 use Rattle.frames.specs.Bytes.{byte, word}
+use Rattle.set_state.specs.declared.state.Refusal.{Refusal}
 use Rattle.set_state.specs.declared.state.Refusal.TheVariants.{Length, Version, Payload}
-use Rattle.set_rules.specs.Entries.{read_entry, mobile_in, on_byte, measured, payload, payload_ok, size_ok, telegram_in, plan_in, entry_kind, entry_desk, entry_channel, entry_on, entry_base, entry_number, entry_called, ReadEntry}
+use Rattle.set_rules.specs.Entries.{read_entry, measured, payload, payload_ok, size_ok, telegram_in, plan_in, entry_kind, entry_desk, entry_channel, entry_on, entry_base, entry_number, entry_called, ReadEntry}
 use Rattle.set_rules.specs.Plan.{desk_ok, desks_ok, desks_in, channels_ok, channels_in, desk_count, desks_part, channel_count, channels_part, distinct, plan_ok, set_of}
 use Rattle.set_rules.specs.Refusals.{asked_in, number_in, called_place, refusal_of}
 use Rattle.set_rules.specs.Records.{Delivery, delivered, record_for}
@@ -227,6 +228,7 @@ plan_ok_lem p h =
 -- ---- what an entry asks for
 
 pub record AskedOk (x : ReadEntry) : Type 0 where
+  pub on-ok : entry_on x ≤ 1
   pub base_ok : entry_base x ≤ 29
   pub number_ok : NumberOk (number_in (entry_number x))
 
@@ -240,37 +242,40 @@ number_in_lem b l = go (leb (length b) 9 && all_digits b) refl
 none-ok : NumberOk (num 0)
 none-ok = omega arith
 
--- an entry without a number
-bare-ok : (x : ReadEntry) → entry_base x ≡ 0 → entry_number x ≡ None → AskedOk x
-bare-ok x b n = record { base_ok = omega (arith, b); number_ok = rw n none-ok }
+abbrev Numbered : ReadEntry → Type 0
+Numbered x = NumberOk (number_in (entry_number x))
 
--- one with a base and a number
-numbered-ok : (x : ReadEntry) (e : List ℕ) (size on : Bool) → entry_base x ≡ byte e 5 → entry_number x ≡ mobile_in e → (size && on && leb (byte e 5) 29) ≡ true → AskedOk x
-numbered-ok x e size on b n h =
-    record { base_ok = rw b (leb-true _ 29 (both (size && on) (leb (byte e 5) 29) h).1); number_ok = rw n (number_in_lem (take 8 (drop 6 e)) (eight-taken (drop 6 e))) }
-
-payload-asked : (k : ℕ) (e : List ℕ) → payload_ok k e ≡ true → AskedOk (Ok (payload k e))
-unfolding entry_base entry_number
-payload-asked k e h =
-    by_test (eqb k 1) (λ a. rw a (bare-ok _ refl refl)) (λ a.
-    by_test (eqb k 2) (λ b. rw (a, b) (bare-ok _ refl refl)) (λ b.
-    by_test (eqb k 3) (λ c. rw (a, b, c) (bare-ok _ refl refl)) (λ c.
-    by_test (eqb k 4) (λ d. rw (a, b, c, d) (numbered-ok _ e (size_ok k (length e)) (leb (on_byte k e) 1) refl refl (rw d at h))) (λ d.
-    by_test (eqb k 5) (λ f. rw (a, b, c, d, f) (bare-ok _ refl refl)) (λ f.
-    by_test (eqb k 6) (λ g. rw (a, b, c, d, f, g) (bare-ok _ refl refl)) (λ g.
-    by_test (eqb k 7) (λ i. rw (a, b, c, d, f, g, i) (bare-ok _ refl refl)) (λ i.
-    by_test (eqb k 9) (λ j. rw (a, b, c, d, f, g, i, j) (numbered-ok _ e (size_ok k (length e)) (leb (on_byte k e) 1) refl refl (rw (d, j) at h))) (λ j.
-    by_test (eqb k 10) (λ l. rw (a, b, c, d, f, g, i, j, l) (bare-ok _ refl refl)) (λ l. rw (a, b, c, d, f, g, i, j, l) (bare-ok _ refl refl))))))))))
+payload-number : (k : ℕ) (e : List ℕ) → Numbered (payload k e)
+unfolding entry_number
+payload-number k e =
+    let number = number_in_lem (take 8 (drop 6 e)) (eight-taken (drop 6 e)) in
+    either Numbered (eqb k 1) _ _ none-ok
+    (either Numbered (eqb k 2) _ _ none-ok
+    (either Numbered (eqb k 3) _ _ none-ok
+    (either Numbered (eqb k 4) _ _ number
+    (either Numbered (eqb k 5) _ _ none-ok
+    (either Numbered (eqb k 6) _ _ none-ok
+    (either Numbered (eqb k 7) _ _ none-ok
+    (either Numbered (eqb k 8) _ _ none-ok
+    (either Numbered (eqb k 9) _ _ number
+    (either Numbered (eqb k 10) _ _ none-ok none-ok)))))))))
 
 pub asked-ok : (e : List ℕ) → AskedOk (read_entry e)
-unfolding read_entry entry_base entry_number
+unfolding read_entry entry_on entry_base entry_number
 asked-ok e = go (measured e) (eqb (byte e 2) 1) (payload_ok (byte e 3) e) refl
   where
-    go : (t u v : Bool) → payload_ok (byte e 3) e ≡ v → AskedOk (cond t (cond u (cond v (Ok (payload (byte e 3) e)) (Err Payload)) (Err Version)) (Err Length))
-    go true true true h = payload-asked (byte e 3) e h
-    go true true false h = bare-ok (Err Payload) refl refl
-    go true false v h = bare-ok (Err Version) refl refl
-    go false u v h = bare-ok (Err Length) refl refl
+    refused : (r : Refusal) → AskedOk (Err r)
+    refused r = record { on-ok = omega arith; base_ok = omega arith; number_ok = none-ok }
+
+    go : (t u v : Bool) → payload_ok (byte e 3) e ≡ v → AskedOk (cond t (cond u (cond v (payload (byte e 3) e) (Err Payload)) (Err Version)) (Err Length))
+    go true true true h =
+        let x = payload (byte e 3) e in
+        let b = both (size_ok (byte e 3) (length e) && leb (entry_on x) 1) (leb (entry_base x) 29) h in
+        let o = both (size_ok (byte e 3) (length e)) (leb (entry_on x) 1) b.0 in
+        record { on-ok = leb-true _ 1 o.1; base_ok = leb-true _ 29 b.1; number_ok = payload-number (byte e 3) e }
+    go true true false h = refused Payload
+    go true false v h = refused Version
+    go false u v h = refused Length
 
 -- an accepted plan keeps the rules of a plan: row 6
 pub plan_kept : (s : LineSet) (e : List ℕ) (x : ReadEntry) → refusal_of s e x ≡ 0 → entry_kind x ≡ 7 → plan_ok (plan_in e) ≡ true
@@ -284,7 +289,7 @@ abbrev pub ring_of : LineSet → ReadEntry → Event
 ring_of s x = Ring (called_place s.desks s.size.desks (entry_called x)) (entry_base x) (number_in (entry_number x))
 
 pub record EntryFits (s : LineSet) (x : ReadEntry) : Type 0 where
-  pub press-fits : entry_kind x ≡ 2 → Fits (press_of s x (entry_on x)) (channel_at s (entry_channel x))
+  pub press-fits : entry_kind x ≡ 2 → Fits (press_of s x (eqb (entry_on x) 1)) (channel_at s (entry_channel x))
   pub cut_fits : entry_kind x ≡ 3 → Fits Cut (channel_at s (entry_channel x))
   pub on_fits : entry_kind x ≡ 4 → Fits (MobileOn (entry_base x) (number_in (entry_number x))) (channel_at s (entry_channel x))
   pub off-fits : entry_kind x ≡ 5 → Fits MobileOff (channel_at s (entry_channel x))
@@ -295,7 +300,7 @@ pub entry-fits : (s : LineSet) → SetOk s → (e : List ℕ) (x : ReadEntry) �
 entry-fits s ok e x a z =
     let f = row-finds s e x z in
     record {
-      press-fits = λ k. press k (entry_on x) refl;
+      press-fits = λ k. press k (eqb (entry_on x) 1) refl;
       cut_fits = λ k. ap is_held (f.cut-held k);
       on_fits = λ k. (a.base_ok, a.number_ok, f.mobile-silent k);
       off-fits = λ k. not-false _ (rw k at (no_row s e x z).row15-fails);
@@ -304,9 +309,11 @@ entry-fits s ok e x a z =
     }
   where
     -- a press off only while on: row 15
-    press : entry_kind x ≡ 2 → (t : Bool) → entry_on x ≡ t → Fits (press_of s x t) (channel_at s (entry_channel x))
+    press : entry_kind x ≡ 2 → (t : Bool) → eqb (entry_on x) 1 ≡ t → Fits (press_of s x t) (channel_at s (entry_channel x))
     press k true o = (own-ok s ok (entry_desk x), (row-finds s e x z).press-held k)
-    press k false o = not-false _ (rw (k, o) at (no_row s e x z).row15-fails)
+    press k false o =
+        let off : entry_on x ≡ 0 = omega (arith, a.on-ok, eqb-false (entry_on x) 1 o) in
+        by_test (is_pressed (channel_at s (entry_channel x))) (λ p. p) (λ p. absurd (false≢true (sym (rw (k, p, off) at (no_row s e x z).row15-fails))))
 
 -- ---- every accepted entry, every entry, every feed
 

@@ -11,7 +11,7 @@ use lib.Count.{ones_in}
 use lib.Dec.{eqb, leb, ltb}
 use lib.ListN.{length, length-take, take, get_or, get_or-eq_default}
 use borrow.Author.Tests.{eqb-false, leb-false, ltb-false, ltb-true}
-use Rattle.std.specs.Prelude.{Option, None, Some}
+use Rattle.std.specs.Prelude.{Option, None, Some, Ok, Err}
 use Rattle.laws.specs.Each.{Each}
 use Rattle.laws.proofs.Each.{◌▹◌, each_at, each_both, each_map, each_take}
 use Rattle.laws.proofs.Table.{pick_each}
@@ -40,15 +40,17 @@ use Rattle.set_state.specs.Entry.{refusal_in}
 use Rattle.set_state.specs.declared.state.LinkRequest.TheVariants.{TellsTime, TellsState}
 use Rattle.set_state.specs.declared.state.Request.{Request}
 use Rattle.set_state.specs.declared.state.Request.TheVariants.{OfLink, OnChannel, AnswersRing, Foreign}
-use Rattle.set_rules.specs.Entries.{read_entry, measured, payload_ok, telegram_in, plan_in, entry_kind, entry_desk, entry_channel, ReadEntry}
+use Rattle.set_rules.specs.Entries.{read_entry, measured, payload, payload_ok, telegram_in, plan_in, entry_kind, entry_desk, entry_channel, ReadEntry}
 use Rattle.set_rules.specs.Plan.{set_of}
 use Rattle.set_rules.specs.Refusals.{Lookup, Test, asked_in, first_of, table, refusal_of}
 use Rattle.set_rules.specs.Records.{delivered, space_of}
 use Rattle.set_rules.specs.SetRules.{Effect, on_channel, sends_of, tick_sends, end_sends, on_tick, on_handover, on_plan, answers_in, on_request, ways, accepted_by, accepted}
 use Rattle.set_rules.specs.Feeds.{Item, outcome_of, step_of, after}
+use Rattle.set_rules.specs.RecordLaws.{OfKind}
 use Rattle.set_rules.specs.Invariant.{Shaped, around_of}
 use Rattle.set_rules.specs.Promises.{room_enough, Roomy, Brings}
 use Rattle.set_rules.proofs.Answers.{space-append}
+use Rattle.set_rules.proofs.Rows.{payload_of_kind}
 use Rattle.set_rules.proofs.Readable.{always_ok}
 use Rattle.set_rules.proofs.Shape.{always_shaped}
 use Rattle.set_rules.proofs.Told.{always_among}
@@ -383,11 +385,18 @@ rows_other =
 abbrev ReadsOther : ReadEntry → Type 0
 ReadsOther x = Other (refusal_in x)
 
+payload-other : (k : ℕ) (e : List ℕ) → ReadsOther (payload k e)
+payload-other k e = go (payload k e) (payload_of_kind k e)
+  where
+    go : (x : ReadEntry) → OfKind k x → ReadsOther x
+    go (Ok x) h = other 0 refl
+    go (Err r) h = rw h (other 3 refl)
+
 read-other : (e : List ℕ) → ReadsOther (read_entry e)
 unfolding read_entry
 read-other e =
     either ReadsOther (measured e) _ _
-    (either ReadsOther (eqb (byte e 2) 1) _ _ (either ReadsOther (payload_ok (byte e 3) e) _ _ (other 0 refl) (other 3 refl)) (other 2 refl))
+    (either ReadsOther (eqb (byte e 2) 1) _ _ (either ReadsOther (payload_ok (byte e 3) e) _ _ (payload-other (byte e 3) e) (other 3 refl)) (other 2 refl))
     (other 1 refl)
 
 refusal-other : (s : LineSet) (e : List ℕ) → Other (refusal_of s e (read_entry e))

@@ -2,7 +2,7 @@
 -- Assumes nothing.
 use Prim.Native.Nat.{ℕ, suc}
 use mathlib.Core.List.{List, [], ◌∷◌}
-use mathlib.Core.Bool.{Bool, true, false, not, false≢true, true≢false}
+use mathlib.Core.Bool.{Bool, true, false, not, cond, false≢true, true≢false}
 use mathlib.Core.Path.{◌≡◌, refl, sym, ap, ◌∙◌}
 use native.Mathlib.Omega.{arith}
 use lib.Dec.{eqb}
@@ -10,18 +10,19 @@ use borrow.Author.Tests.{eq-eqb, eqb-true, not-true, not-false}
 use Rattle.std.specs.Prelude.{Option, None, Some}
 use Rattle.laws.specs.Each.{Each}
 use Rattle.laws.proofs.Each.{◌▹◌}
-use Rattle.laws.proofs.Tests.{both, neither}
+use Rattle.laws.proofs.Tests.{both, neither, by_branch}
 use Rattle.telegram.specs.Telegram.{read_telegram}
 use Rattle.telegram.specs.Telegram.{Reading}
 use Rattle.channel.specs.State.{is_in, is_held, held_by, is_present, is_open}
 use Rattle.channel.specs.declared.state.Call.{Call}
 use Rattle.channel.specs.declared.state.Arrival.{Arrival}
 use Rattle.channel.specs.declared.state.Channel.{Channel}
-use Rattle.line_rules.specs.Rules.{is_ringing}
+use Rattle.line_rules.specs.Rules.{is_pressed, is_ringing}
 use Rattle.line_rules.specs.Invariant.{Idle}
 use Rattle.set_state.specs.State.{channel_at, listeners_of}
 use Rattle.set_rules.specs.Entries.{telegram_in, entry_kind, entry_desk, entry_channel, entry_called, ReadEntry}
 use Rattle.set_rules.specs.Refusals.{Lookup, lookup_in, Test, asked_in, named_by, is_idle, called_place, row4, row5, row6, row7, row11, row12, row13, row14, row15, row17, first_of, refusal_of, table}
+use Rattle.set_rules.specs.RecordLaws.{OfKind, PayloadOfKind}
 use Rattle.set_rules.specs.Promises.{Finds}
 use Rattle.set_state.specs.declared.state.LineSet.{LineSet}
 use Rattle.set_state.specs.Entry.{refusal_in}
@@ -97,6 +98,23 @@ module _ (s : LineSet) (e : List ℕ) (x : ReadEntry) where
         row17-fails = from14.1.1.0;
       }
 
+-- ---- what a payload asks for
+
+pub payload_of_kind : PayloadOfKind
+unfolding entry_kind
+payload_of_kind k e =
+    let kind : (n : ℕ) → eqb k n ≡ true → n ≡ k = λ n t. sym (eqb-true k n t) in
+    by_branch (OfKind k) (eqb k 1) _ _ (kind 1) (λ n.
+    by_branch (OfKind k) (eqb k 2) _ _ (kind 2) (λ n.
+    by_branch (OfKind k) (eqb k 3) _ _ (kind 3) (λ n.
+    by_branch (OfKind k) (eqb k 4) _ _ (kind 4) (λ n.
+    by_branch (OfKind k) (eqb k 5) _ _ (kind 5) (λ n.
+    by_branch (OfKind k) (eqb k 6) _ _ (kind 6) (λ n.
+    by_branch (OfKind k) (eqb k 7) _ _ (kind 7) (λ n.
+    by_branch (OfKind k) (eqb k 8) _ _ (kind 8) (λ n.
+    by_branch (OfKind k) (eqb k 9) _ _ (kind 9) (λ n.
+    by_branch (OfKind k) (eqb k 10) _ _ (kind 10) (λ n. refl))))))))))
+
 -- ---- what an accepted entry finds: rows 14, 15 and 17
 
 pub held_by_lem : (d : ℕ) (h : Option ℕ) → held_by d h ≡ true → h ≡ Some d
@@ -127,6 +145,10 @@ idle c h =
       silent = not-true _ ring.1;
     }
 
+not_on : (t : Bool) → eqb 1 (cond t 1 0) ≡ false → t ≡ false
+not_on true h = absurd (true≢false h)
+not_on false h = refl
+
 pub row-finds : (s : LineSet) (e : List ℕ) (x : ReadEntry) → refusal_of s e x ≡ 0 → Finds s x
 row-finds s e x z =
     let c = channel_at s (entry_channel x) in
@@ -138,7 +160,7 @@ row-finds s e x z =
     record {
       press-held = λ k. held (rw k at r.row14-fails);
       cut-held = λ k. held (rw k at r.row14-fails);
-      press_new = λ k o. rw (k, o) at r.row15-fails;
+      press_new = λ k o. not_on (is_pressed c) (rw (k, o) at r.row15-fails);
       mobile_new = λ k. absent c.arrival (new k).0;
       mobile-silent = λ k. (new k).1;
       call-idle = λ k. idle c (called k).1;

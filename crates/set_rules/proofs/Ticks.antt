@@ -7,7 +7,7 @@ use mathlib.Core.Path.{◌≡◌, refl, sym, ap, ◌∙◌}
 use native.Mathlib.Omega.{arith}
 use lib.Dec.{eqb, ltb}
 use lib.ListN.{length, replicate, get_or}
-use borrow.Author.Tests.{ltb-false, not-false}
+use borrow.Author.Tests.{ltb-false}
 use Rattle.std.specs.Prelude.{Option, None, Some}
 use Rattle.laws.proofs.Tests.{by_test}
 use Rattle.channel.specs.State.{is_in, is_held, is_open}
@@ -115,17 +115,18 @@ one_place c rest ds n ch h = go (eqb c.code ch) h
     go false h = absurd (false≢true h)
 
 let_go : (c : Channel) (rest : List Channel) (ds : List Desk) (n d : ℕ) (e : List ℕ) (x : ReadEntry) → c.holder ≡ Some d → c.arrival ≡ None → c.ring ≡ 0
-    → entry_kind x ≡ 2 → entry_on x ≡ false → eqb c.code (entry_channel x) ≡ true
+    → entry_kind x ≡ 2 → entry_on x ≡ 0 → eqb c.code (entry_channel x) ≡ true
     → (accepted (set_with c rest ds n) e x).after ≡ set_with (quietly c.code c.entitled d c.call) rest ds n
 unfolding pick accepted_by accepted on_channel place_of happens press_off quietly
 let_go c rest ds n d e x h a q k o m = rw (k, o, m, h, a, q)
 
 -- the channel was pressed: row 15
-was_pressed : (c : Channel) (rest : List Channel) (ds : List Desk) (n : ℕ) (e : List ℕ) (x : ReadEntry) → entry_kind x ≡ 2 → entry_on x ≡ false
+was_pressed : (c : Channel) (rest : List Channel) (ds : List Desk) (n : ℕ) (e : List ℕ) (x : ReadEntry) → entry_kind x ≡ 2 → entry_on x ≡ 0
     → eqb c.code (entry_channel x) ≡ true → refusal_of (set_with c rest ds n) e x ≡ 0 → is_pressed c ≡ true
 unfolding place_of
 was_pressed c rest ds n e x k o m z =
-    let r : not (is_pressed c) ≡ false = rw (k, o, m) at (no_row (set_with c rest ds n) e x z).row15-fails in not-false _ r
+    let off : eqb 0 (cond (is_pressed c) 1 0) ≡ false = rw (k, o, m) at (no_row (set_with c rest ds n) e x z).row15-fails in
+    by_test (is_pressed c) (λ p. p) (λ p. absurd (false≢true (sym (rw p at off))))
 
 -- so a call was open (`Timed`), and no mobile rings where a desk holds
 first-ok : (f : List Item) (c : Channel) (rest : List Channel) → (after new_set f).channels ≡ c ∷ rest → ChannelOk c

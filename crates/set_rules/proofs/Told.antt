@@ -244,7 +244,7 @@ module _ (M : Number → Type 0) (s : LineSet) (ok : SetOk s) (shaped : Shaped s
         let on = on-tells (entry_channel x) in
         pick_each TellsFor (entry_kind x) _ (ways (answers_in s (entry_desk x) asked) s e x) (record { among-after = among; sent-right = tt })
         ((λ k. served _ (rw k) (telegram-tells k))
-        ▹ (λ k. served _ (rw k) (on _ (found s e x z 2 refl refl k) (fits.press-fits k) (press-among (entry_on x) _)))
+        ▹ (λ k. served _ (rw k) (on _ (found s e x z 2 refl refl k) (fits.press-fits k) (press-among (eqb (entry_on x) 1) _)))
         ▹ (λ k. served _ (rw k) (on Cut (found s e x z 3 refl refl k) (fits.cut_fits k) tt))
         ▹ (λ k. served _ (rw k) (on _ (found s e x z 4 refl refl k) (fits.on_fits k) (brings (inl k))))
         ▹ (λ k. served _ (rw k) (on MobileOff (found s e x z 5 refl refl k) (fits.off-fits k) tt))

@@ -1,5 +1,5 @@
 -- 01, Entries and records, with 02 §1's kinds: what an entry's bytes ask for, or refusal 1, 2 or 3.
-use Rattle.std.specs.Prelude.{ℕ, ◌+◌, List, [], ◌∷◌, Bool, true, false, ◌&&◌, ◌||◌, cond, eqb, leb, length, take, drop, Option, None, Result, Ok, Err}
+use Rattle.std.specs.Prelude.{ℕ, ◌+◌, List, [], ◌∷◌, Bool, true, false, ◌&&◌, cond, eqb, leb, length, take, drop, Option, None, Result, Ok, Err}
 use Rattle.numerals.specs.Digits.{digits_in}
 use Rattle.laws.specs.Table.{pick}
 use Rattle.frames.specs.Bytes.{byte, word}
@@ -13,7 +13,7 @@ use Rattle.set_state.specs.declared.state.Entry.TheVariants.{Telegram, Press, Cu
 abbrev pub measured : List ℕ → Bool
 measured e = leb 4 (length e) && eqb (word e 0 + 2) (length e) && leb (word e 0) 12000
 
--- ---- what an entry's bytes ask for, or why they ask for nothing. What a kind does not have is 0, false or no number.
+-- ---- what an entry's bytes ask for, or why they ask for nothing. What a kind does not have is 0 or no number.
 abbrev pub ReadEntry : Type 0
 ReadEntry = Result Entry Refusal
 
@@ -40,9 +40,9 @@ unfoldable pub entry_channel : ReadEntry → ℕ
 entry_channel (Ok x) = channel_from x
 entry_channel (Err r) = 0
 
-unfoldable pub entry_on : ReadEntry → Bool
+unfoldable pub entry_on : ReadEntry → ℕ
 entry_on (Ok (Press d ch on)) = on
-entry_on _ = false
+entry_on _ = 0
 
 unfoldable pub entry_base : ReadEntry → ℕ
 entry_base (Ok (MobileOn ch b n)) = b
@@ -68,26 +68,20 @@ called_in e = digits_in (take 8 (drop 14 e))
 
 -- "1 telegram: desk, telegram bytes; 2 press: desk, channel, on; 3 cut: desk, channel; 4 mobile on: channel, base 0 to 29, 8-byte
 -- number; 5 mobile off: channel; 6 tick: none; 7 plan; 8 handover: none"; 02 §1: "mobile call (channel, base, mobile's number, called
--- number), kind 9, and mobile cancel (channel), kind 10"
-abbrev pub payload : ℕ → List ℕ → Entry
+-- number), kind 9, and mobile cancel (channel), kind 10". Another kind asks for nothing (`RecordLaws`).
+abbrev pub payload : ℕ → List ℕ → ReadEntry
 payload k e =
-    cond (eqb k 1) (Telegram (byte e 4))
-    (cond (eqb k 2) (Press (byte e 4) (byte e 5) (eqb (byte e 6) 1))
-    (cond (eqb k 3) (Cut (byte e 4) (byte e 5))
-    (cond (eqb k 4) (MobileOn (byte e 4) (byte e 5) (mobile_in e))
-    (cond (eqb k 5) (MobileOff (byte e 4))
-    (cond (eqb k 6) Tick
-    (cond (eqb k 7) Plan
-    (cond (eqb k 9) (MobileCall (byte e 4) (byte e 5) (mobile_in e) (called_in e))
-    (cond (eqb k 10) (MobileCancel (byte e 4))
-    Handover))))))))
-
--- the bytes of on and of the base, 0 where a kind has none
-abbrev pub on_byte : ℕ → List ℕ → ℕ
-on_byte k e = cond (eqb k 2) (byte e 6) 0
-
-abbrev pub base_byte : ℕ → List ℕ → ℕ
-base_byte k e = cond (eqb k 4 || eqb k 9) (byte e 5) 0
+    cond (eqb k 1) (Ok (Telegram (byte e 4)))
+    (cond (eqb k 2) (Ok (Press (byte e 4) (byte e 5) (byte e 6)))
+    (cond (eqb k 3) (Ok (Cut (byte e 4) (byte e 5)))
+    (cond (eqb k 4) (Ok (MobileOn (byte e 4) (byte e 5) (mobile_in e)))
+    (cond (eqb k 5) (Ok (MobileOff (byte e 4)))
+    (cond (eqb k 6) (Ok Tick)
+    (cond (eqb k 7) (Ok Plan)
+    (cond (eqb k 8) (Ok Handover)
+    (cond (eqb k 9) (Ok (MobileCall (byte e 4) (byte e 5) (mobile_in e) (called_in e)))
+    (cond (eqb k 10) (Ok (MobileCancel (byte e 4)))
+    (Err Payload))))))))))
 
 -- "payload size wrong (kind 1 needs a desk byte; kind 7 is judged at 6)", by kind; the four bytes before the payload count here
 abbrev pub sizes : List (ℕ × (ℕ → Bool))
@@ -100,13 +94,13 @@ size_ok k n = pick k (λ n. false) sizes n
 
 -- 3: "kind not 1 to" 10, by 02 §1; "payload size wrong ..; on above 1; base above 29"
 abbrev pub payload_ok : ℕ → List ℕ → Bool
-payload_ok k e = size_ok k (length e) && leb (on_byte k e) 1 && leb (base_byte k e) 29
+payload_ok k e = size_ok k (length e) && leb (entry_on (payload k e)) 1 && leb (entry_base (payload k e)) 29
 
 -- what an entry asks for; 2: "version is not 1"
 unfoldable pub read_entry : List ℕ → ReadEntry
 read_entry e =
     cond (measured e)
-    (cond (eqb (byte e 2) 1) (cond (payload_ok (byte e 3) e) (Ok (payload (byte e 3) e)) (Err Payload)) (Err Version))
+    (cond (eqb (byte e 2) 1) (cond (payload_ok (byte e 3) e) (payload (byte e 3) e) (Err Payload)) (Err Version))
     (Err Length)
 
 -- the bytes of a telegram, and of a plan

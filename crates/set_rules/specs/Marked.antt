@@ -80,7 +80,7 @@ abbrev pub EndsAt : ℕ → ℕ → Type 0
 EndsAt end release =
     (f : List Item) (c : Channel) (rest : List Channel) (d : ℕ)
     → (after new_set f).size.channels ≡ 1 → (after new_set f).channels ≡ c ∷ rest → c.holder ≡ Some d → c.arrival ≡ None
-    → (i : Item) → entry_kind (read_entry i.entry) ≡ 2 → entry_on (read_entry i.entry) ≡ false → (step_by (after new_set f) i).refusal ≡ 0
+    → (i : Item) → entry_kind (read_entry i.entry) ≡ 2 → entry_on (read_entry i.entry) ≡ 0 → (step_by (after new_set f) i).refusal ≡ 0
     → (bs : List (List ℕ)) → length bs ≡ release → Each Accepted (run (step_by (after new_set f) i).after (ticks_with bs))
     → map tick_of (run (step_by (after new_set f) i).after (ticks_with bs))
     ≡ replicate (end - 1) (ticked_by [] true true)

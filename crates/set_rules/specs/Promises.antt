@@ -220,7 +220,7 @@ HoldingEnds =
 pub record Finds (s : LineSet) (x : ReadEntry) : Type 0 where
   pub press-held : entry_kind x ≡ 2 → (channel_at s (entry_channel x)).holder ≡ Some (entry_desk x)
   pub cut-held : entry_kind x ≡ 3 → (channel_at s (entry_channel x)).holder ≡ Some (entry_desk x)
-  pub press_new : entry_kind x ≡ 2 → entry_on x ≡ true → is_pressed (channel_at s (entry_channel x)) ≡ false
+  pub press_new : entry_kind x ≡ 2 → entry_on x ≡ 1 → is_pressed (channel_at s (entry_channel x)) ≡ false
   pub mobile_new : entry_kind x ≡ 4 → (channel_at s (entry_channel x)).arrival ≡ None
   pub mobile-silent : entry_kind x ≡ 4 → is_ringing (channel_at s (entry_channel x)) ≡ false
   pub call-idle : entry_kind x ≡ 9 → Idle (channel_at s (entry_channel x))

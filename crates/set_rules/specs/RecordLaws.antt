@@ -1,4 +1,4 @@
--- What the crates of code cite of records, answers and plans, beside the promises: laws, each under the name given with it in
+-- What other crates cite of records, answers, entries and plans, beside the promises: laws, each under the name given with it in
 -- `proofs/Kept.antt`. They are proved, and no rule rests on them.
 use Rattle.std.specs.Prelude.{ℕ, zero, suc, ◌+◌, ◌/◌, ◌%◌, ◌<◌, List, ◌++◌, ◌≡◌, eqb, length, Ok, Err}
 use Rattle.laws.specs.Each.{Each}
@@ -7,6 +7,7 @@ use Rattle.channel.specs.State.{is_in}
 use Rattle.channel.specs.declared.state.Channel.{Channel}
 use Rattle.channel.specs.declared.state.Send.{Send}
 use Rattle.line_rules.specs.Notices.{Content}
+use Rattle.set_rules.specs.Entries.{ReadEntry, entry_kind, payload}
 use Rattle.set_rules.specs.Plan.{desks_in, channels_in}
 use Rattle.set_rules.specs.Records.{Delivery, delivered, record_for, record_size, records_of, space_of}
 use Rattle.set_rules.specs.SetRules.{Effect, sends_of}
@@ -14,6 +15,7 @@ use Rattle.set_rules.specs.Feeds.{Outcome, answer_of, Gives, refuse, emit}
 use Rattle.set_state.specs.Entry.{number_of}
 use Rattle.set_state.specs.declared.state.Answer.{Answer}
 use Rattle.set_state.specs.declared.state.Refusal.{Refusal}
+use Rattle.set_state.specs.declared.state.Refusal.TheVariants.{Payload}
 use Rattle.set_state.specs.declared.state.Desk.{Desk}
 use Rattle.set_state.specs.declared.state.LineSet.{LineSet}
 
@@ -78,6 +80,16 @@ NoRoom s b f r = length b < space_of f.sent → Gives (refuse 16 s) r b b → Gi
 -- the answer to what is not refused
 abbrev pub accepted_with : LineSet → ℕ → Answer
 accepted_with t n = record { set = t; reply = Ok n }
+
+-- ---- entries
+
+-- What a payload asks for is of its kind; what is no kind is refused with 3 (`payload_of_kind`).
+abbrev pub OfKind : ℕ → ReadEntry → Type 0
+OfKind k (Ok x) = entry_kind (Ok x) ≡ k
+OfKind k (Err r) = r ≡ Payload
+
+abbrev pub PayloadOfKind : Type 0
+PayloadOfKind = (k : ℕ) (e : List ℕ) → OfKind k (payload k e)
 
 -- ---- plans
 

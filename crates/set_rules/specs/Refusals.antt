@@ -192,7 +192,7 @@ row14 v e r x = (is_kind 2 x || is_kind 3 x) && not (held_by (entry_desk x) v.ch
 -- "press on while on, off while off; mobile the same"; 02 §1: "Mobile on during a ring is 15."
 abbrev pub row15 : Test
 row15 v e r x =
-    cond (is_kind 2 x) (cond (entry_on x) (is_pressed v.channel) (not (is_pressed v.channel)))
+    cond (is_kind 2 x) (eqb (entry_on x) (cond (is_pressed v.channel) 1 0))
     (cond (is_kind 4 x) (is_present v.channel.arrival || is_ringing v.channel)
     (cond (is_kind 5 x) (not (is_present v.channel.arrival))
     false))

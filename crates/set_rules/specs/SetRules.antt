@@ -140,7 +140,7 @@ on_request matched s d Foreign = effect s s []
 abbrev pub ways : Bool → LineSet → List ℕ → ReadEntry → List (ℕ × Effect)
 ways matched s e x =
     (1, on_request matched s (entry_desk x) (asked_in (entry_desk x) (read_telegram (telegram_in e))))
-    ∷ (2, on_channel s (entry_channel x) (cond (entry_on x) (PressOn (entry_desk x) (own_of s.desks (entry_desk x))) PressOff))
+    ∷ (2, on_channel s (entry_channel x) (cond (eqb (entry_on x) 1) (PressOn (entry_desk x) (own_of s.desks (entry_desk x))) PressOff))
     ∷ (3, on_channel s (entry_channel x) Cut)
     ∷ (4, on_channel s (entry_channel x) (MobileOn (entry_base x) (number_in (entry_number x))))
     ∷ (5, on_channel s (entry_channel x) MobileOff)

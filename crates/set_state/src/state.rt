@@ -141,8 +141,8 @@ impl Refusal {
     }
 }
 
-// What an entry's bytes ask for. A telegram and a plan stay in the bytes. `number` is a mobile's, `called` that of the desk that it
-// calls.
+// What an entry's bytes ask for. A telegram and a plan stay in the bytes. `on` is a byte as well, of which 1 says on. `number` is a
+// mobile's, `called` that of the desk that it calls.
 #[derive(Clone, Copy)]
 pub enum Entry {
     Telegram {
@@ -151,7 +151,7 @@ pub enum Entry {
     Press {
         desk: u8,
         channel: u8,
-        on: bool,
+        on: u8,
     },
     Cut {
         desk: u8,

@@ -16,23 +16,24 @@ use Rattle.set_state.specs.declared.state.Entry.{Entry}
 use Rattle.set_state.specs.declared.state.Entry.TheVariants.{MobileOff, MobileCancel}
 use borrow.Author.Tests.{ne_eqb}
 use Rattle.laws.specs.Table.{pick}
+use Rattle.set_rules.specs.Entries.{entry_on, entry_base}
 use Rattle.entries.specs.Payloads.{payload_in, line_in, bare_in}
 use Rattle.entries.proofs.entry.read_payload.Goals as goal
 
 pub returns-in-6 : goal.returns-in-6
-unfolding pick payload_in bare_in
+unfolding pick payload_in entry_on entry_base bare_in
 returns-in-6 c = rw c.in-6.is (simp and-true c.read_bare.ensures)
 
 pub returns-in-7 : goal.returns-in-7
-unfolding pick payload_in
+unfolding pick payload_in entry_on entry_base
 returns-in-7 c = rw c.in-7.is refl
 
 pub returns-in-8 : goal.returns-in-8
-unfolding pick payload_in bare_in
+unfolding pick payload_in entry_on entry_base bare_in
 returns-in-8 c = rw c.in-8.is (simp and-true c.read_bare-in-8.ensures)
 
 pub returns-in_default : goal.returns-in_default
-unfolding pick payload_in
+unfolding pick payload_in entry_on entry_base
 returns-in_default c =
     let r = c.in_default.in_default-own.rest in
     simp (ne_eqb _ _ r.0.0.0.0.0.0.0.0.0.1, ne_eqb _ _ r.0.0.0.0.0.0.0.0.1, ne_eqb _ _ r.0.0.0.0.0.0.0.1, ne_eqb _ _ r.0.0.0.0.0.0.1, ne_eqb _ _ r.0.0.0.0.0.1, ne_eqb _ _ r.0.0.0.0.1, ne_eqb _ _ r.0.0.0.1, ne_eqb _ _ r.0.0.1, ne_eqb _ _ r.0.1, ne_eqb _ _ r.1) refl
@@ -47,23 +48,23 @@ unfolding line_in
 taken e ch make h = by_test (eqb (length e) 5) (λ t. rw t (let f : ◌≡◌ {A = Result ℕ Refusal} (Ok (byte e 4)) (Ok ch) = rw t at h in cc)) (λ t. rw t (let f : ◌≡◌ {A = Result ℕ Refusal} (Err Payload) (Ok ch) = rw t at h in cc))
 
 pub returns-in_err-read_line-in-5 : goal.returns-in_err-read_line-in-5
-unfolding pick payload_in
+unfolding pick payload_in entry_on entry_base
 returns-in_err-read_line-in-5 c =
     let p = err_from_is_err_and c.from_residual.result c.from_residual.ensures.1 in
     rw (p.1, p.2, c.in-5.is) (simp and-true (refused c.args.entry.now _ _ (sym c.read_line.ensures ∙ c.in_err-read_line-in-5.was)))
 
 pub returns-in_ok-read_line-in-5 : goal.returns-in_ok-read_line-in-5
-unfolding pick payload_in
+unfolding pick payload_in entry_on entry_base
 returns-in_ok-read_line-in-5 c =
     rw c.in-5.is (simp and-true (taken c.args.entry.now _ MobileOff (sym c.read_line.ensures ∙ c.in_ok-read_line-in-5.was)))
 
 pub returns-in_err-read_line-in-10 : goal.returns-in_err-read_line-in-10
-unfolding pick payload_in
+unfolding pick payload_in entry_on entry_base
 returns-in_err-read_line-in-10 c =
     let p = err_from_is_err_and c.from_residual-in_err-read_line-in-10.result c.from_residual-in_err-read_line-in-10.ensures.1 in
     rw (p.1, p.2, c.in-10.is) (simp and-true (refused c.args.entry.now _ _ (sym c.read_line-in-10.ensures ∙ c.in_err-read_line-in-10.was)))
 
 pub returns-in_ok-read_line-in-10 : goal.returns-in_ok-read_line-in-10
-unfolding pick payload_in
+unfolding pick payload_in entry_on entry_base
 returns-in_ok-read_line-in-10 c =
     rw c.in-10.is (simp and-true (taken c.args.entry.now _ MobileCancel (sym c.read_line-in-10.ensures ∙ c.in_ok-read_line-in-10.was)))

@@ -1,19 +1,20 @@
 -- `requests::request::event_of` meets its contract, kind by kind.
 -- Assumes nothing.
 use mathlib.Core.Path.{refl, ap}
+use borrow.Author.Tests.{eq-eqb, ne_eqb}
 use Rattle.channel.specs.declared.state.Event.TheVariants.{MobileOn}
 use Rattle.telegram.specs.declared.message.Number.{Number}
 use Rattle.set_rules.specs.Entries.{entry_kind, entry_desk, entry_on, entry_base, entry_number, entry_called}
 use Rattle.requests.proofs.Asked.{off_else}
 use Rattle.requests.proofs.request.event_of.Goals as goal
 
-pub returns-then-on : goal.returns-then-on
+pub returns-then-on-eq1 : goal.returns-then-on-eq1
 unfolding entry_kind entry_desk entry_on
-returns-then-on c = rw (c.in-Press.is, c.if-on.true) refl
+returns-then-on-eq1 c = rw (c.in-Press.is, eq-eqb _ _ c.if-on-eq1.true) refl
 
-pub returns-else-on : goal.returns-else-on
+pub returns-else-on-eq1 : goal.returns-else-on-eq1
 unfolding entry_kind entry_on
-returns-else-on c = rw (c.in-Press.is, c.if-on.false) refl
+returns-else-on-eq1 c = rw (c.in-Press.is, ne_eqb _ _ c.if-on-eq1.false) refl
 
 pub returns-in-Cut : goal.returns-in-Cut
 unfolding entry_kind
