@@ -2,8 +2,8 @@
 -- Assumes nothing.
 use Rattle.std.proofs.Common.{◌≡◌, ℕ, zero, suc, ◌+◌, ◌-◌, ◌≤◌, List, [], ◌∷◌, ◌++◌, subst, take-append-drop, drop-drop, take, drop, sym, ap, ◌∙◌, arith, take-take}
 use lib.Seq.{take-nil}
-use Rattle.std.specs.Io.KnownBytes.{Consumes}
-use Rattle.std.proofs.KnownBytes.{Consumes-trans}
+use Rattle.std.specs.Io.KnownBytes.{Consumes, Keeps}
+use Rattle.std.proofs.KnownBytes.{Consumes-trans, Consumes-kept}
 use Rattle.std.proofs.lemmas.List.{drop-take as drop-take-more}
 use Rattle.std.specs.declared.option.Option.{Option}
 use Rattle.streams.specs.Places.{FilledBehind, between}
@@ -46,3 +46,9 @@ pub consumes_on : (x y z : Option (List ℕ)) (count : ℕ) {have n : ℕ} {b b�
 consumes_on x y z count {have} {n} {b} {b₁} h f c d =
     let came : take count (drop n b₁) ≡ between n (n + count) b₁ = let e : count ≡ n + count - n = omega arith in ap (λ (k : ℕ). take k (drop n b₁)) e in
     subst (Consumes x z) (sym (between_on have n (n + count) b b₁ h f.least f.kept)) (Consumes-trans x y z _ _ c (rw came at d))
+
+-- where a read failed, it gave none
+pub consumes_not : (x y z : Option (List ℕ)) (have : ℕ) {n : ℕ} {b b₁ : List ℕ} → FilledBehind b n b₁ n → Consumes x y (between have n b) → Keeps y z → Consumes x z (between have n b₁)
+consumes_not x y z have {n} {b} {b₁} f c k =
+    let same : between have n b₁ ≡ between have n b = sym (drop-take have n b₁) ∙ (ap (λ (l : List ℕ). drop have l) f.kept ∙ drop-take have n b) in
+    subst (Consumes x z) (sym same) (Consumes-kept x y z _ c k)

@@ -11,8 +11,8 @@ use Rattle.laws.proofs.Tests.{by_test}
 use Rattle.laws.proofs.Lists.{none-long}
 use Rattle.frames.specs.Frames.{frame_size}
 use Rattle.frames.proofs.Kept.{size-within, size-some}
-use Rattle.streams.specs.Places.{at_frame, waiting, Within, between, unread, FilledBehind, Came, is_there, Next}
-use Rattle.streams.specs.Promises.{came}
+use Rattle.streams.specs.Places.{at_frame, unreadable, waiting, Within, between, unread, FilledBehind, Came, is_there, Next, Stays, Stops}
+use Rattle.streams.specs.Promises.{came, gained}
 use Rattle.streams.proofs.Moving.{drop-take}
 use Rattle.streams.specs.declared.place.Place.{Place}
 
@@ -88,6 +88,24 @@ module _ (most : ℕ) (b : List ℕ) (p : Place) (w : Within b p) (size : ℕ) (
       spare = omega (arith, c.1, i);
     }
 
+    -- where the text could not be written
+    pub fails : is_there most b p && leb (p.waits + room) long ≡ false → room ≤ long → Stops most room long b p b (waiting p 0)
+    fails f i = record {
+      stays = record { within = record { frame = w.frame; read = w.read; room = w.room }; number = refl; front = take-length (unread b p) };
+      unmoved = λ _. (refl, refl);
+      waits = rw f refl;
+      spare = omega (arith, i);
+    }
+
+    -- or no more could be read
+    pub stops_on : {b₂ : List ℕ} (s : Place) → size ≤ 0 → room ≤ long → Stays b (waiting p 0) b₂ s → s.waits ≡ 0 → Stops most room long b p b₂ s
+    stops_on s h i c z = record {
+      stays = record { within = c.within; number = c.number; front = c.front };
+      unmoved = λ t. absurd (false≢true (sym (not_there h) ∙ t));
+      waits = rw (not_there h) z;
+      spare = omega (arith, z, i);
+    }
+
 -- ---- after a read
 
 module _ (b : List ℕ) (p : Place) (w : Within b p) where
@@ -102,19 +120,32 @@ module _ (b : List ℕ) (p : Place) (w : Within b p) where
       ∙ take-paste b 0 (drop p.to b) (p.filled - p.to) (omega arith) (simp length-drop (omega (arith, w.room))))
 
   module _ (most : ℕ) (b₁ b₂ : List ℕ) (n : ℕ) (m : b₁ ≡ copy_within b p.to p.filled 0) (f : FilledBehind b₁ (p.filled - p.to) b₂ n) where
+    from-start : between 0 n b₂ ≡ take n b₂
+    from-start = ap (λ (j : ℕ). take j b₂) (sub-zero n)
+
+    -- those that were unread are the front of what is filled, and the others are those that were read behind
+    unread-first : take (length (unread b p)) (between 0 n b₂) ≡ unread b p
+    unread-first =
+        ap (λ (j : ℕ). take j (between 0 n b₂)) have_long
+        ∙ (ap (λ (l : List ℕ). take (p.filled - p.to) l) from-start ∙ (take-take (p.filled - p.to) n b₂ f.least ∙ (f.kept ∙ at_front b₁ m)))
+
+    read-behind : drop (length (unread b p)) (between 0 n b₂) ≡ between (p.filled - p.to) n b₂
+    read-behind =
+        ap (λ (j : ℕ). drop j (between 0 n b₂)) have_long
+        ∙ (ap (λ (j : ℕ). drop (p.filled - p.to) (take j b₂)) (sub-zero n) ∙ drop-take (p.filled - p.to) n b₂)
+
     pub reads_it : (ended : Bool) (size : ℕ) (r : Place) → size ≡ frame_size most (take n b₂) ended → 0 < size → (ended ≡ false → frame_size most (take n b₂) false ≡ 0 → ⊥)
         → r ≡ at_frame p 0 size n ended → Came most b p b₂ r × (r.waits ≡ p.waits)
     reads_it ended size r s h g k =
-        let all : between 0 n b₂ ≡ take n b₂ = ap (λ (j : ℕ). take j b₂) (sub-zero n) in
         rw k (
           record {
             within = record { frame = omega arith; read = omega (arith, s, size-within most (take n b₂) ended, length-take-le n b₂ f.most); room = f.most };
             some = h;
             number = refl;
             hands = record {
-              front = ap (λ (j : ℕ). take j (between 0 n b₂)) have_long ∙ (ap (λ (l : List ℕ). take (p.filled - p.to) l) all ∙ (take-take (p.filled - p.to) n b₂ f.least ∙ (f.kept ∙ at_front b₁ m)));
-              size = s ∙ (ap (λ (l : List ℕ). frame_size most l ended) (sym all) ∙ omega arith);
-              whole = λ t z. g t (ap (λ (l : List ℕ). frame_size most l false) (sym all) ∙ z);
+              front = unread-first;
+              size = s ∙ (ap (λ (l : List ℕ). frame_size most l ended) (sym from-start) ∙ omega arith);
+              whole = λ t z. g t (ap (λ (l : List ℕ). frame_size most l false) (sym from-start) ∙ z);
             };
           },
           refl,
@@ -134,9 +165,12 @@ module _ (b : List ℕ) (p : Place) (w : Within b p) where
       pub came_none : [] ≡ between (p.filled - p.to) n b₂
       came_none = let no-more : 0 ≡ n - (p.filled - p.to) = omega (arith, none_there) in ap (λ (j : ℕ). take j (drop (p.filled - p.to) b₂)) no-more
 
-    -- the bytes that came are those that were read behind
     pub came_read : (ended : Bool) (size : ℕ) (r : Place) → r ≡ at_frame p 0 size n ended → came b p b₂ (Some r) ≡ between (p.filled - p.to) n b₂
-    came_read ended size r k = rw k (
-        ap (λ (j : ℕ). drop j (between 0 n b₂)) have_long
-        ∙ (ap (λ (j : ℕ). drop (p.filled - p.to) (take j b₂)) (sub-zero n) ∙ drop-take (p.filled - p.to) n b₂)
-        )
+    came_read ended size r k = rw k read-behind
+
+    -- where a read has failed
+    pub stays_there : (s : Place) → s ≡ unreadable p n → Stays b p b₂ s × (s.waits ≡ p.waits)
+    stays_there s k = rw k (record { within = record { frame = omega arith; read = omega arith; room = f.most }; number = refl; front = unread-first }, refl)
+
+    pub gained_read : (s : Place) → s ≡ unreadable p n → gained b p b₂ s ≡ between (p.filled - p.to) n b₂
+    gained_read s k = rw k read-behind

@@ -14,6 +14,10 @@ abbrev pub at_frame : Place → ℕ → ℕ → ℕ → Bool → Place
 at_frame p from to filled ended =
     record { from = from; to = to; filled = filled; ended = ended; number = (p.number + 1) % 2 ^ 64; waits = p.waits }
 
+-- at no frame, since the input cannot be read
+abbrev pub unreadable : Place → ℕ → Place
+unreadable p filled = record { from = 0; to = 0; filled = filled; ended = false; number = p.number; waits = p.waits }
+
 -- with so many bytes of the text that wait
 abbrev pub waiting : Place → ℕ → Place
 waiting p waits = record { from = p.from; to = p.to; filled = p.filled; ended = p.ended; number = p.number; waits = waits }
@@ -82,3 +86,18 @@ pub record Next (most room long : ℕ) (before : List ℕ) (p : Place) (after : 
   pub unmoved : is_there most before p ≡ true → (after ≡ before) × IfSome r (λ q. q.filled ≡ p.filled)
   pub waits : waits_at r ≡ cond (is_there most before p && nat_le (p.waits + room) long) p.waits 0
   pub spare : waits_at r + room ≤ long
+
+-- ---- the place where a call failed
+
+-- It is before the same frame: the bytes that were unread are still the front of those that are.
+pub record Stays (before : List ℕ) (p : Place) (after : List ℕ) (s : Place) : Type 0 where
+  pub within : Within after s
+  pub number : s.number ≡ p.number
+  pub front : take (length (unread before p)) (unread after s) ≡ unread before p
+
+-- As `Next`: what is there whole stays where it is, and text waits only where it leaves room for an answer to that.
+pub record Stops (most room long : ℕ) (before : List ℕ) (p : Place) (after : List ℕ) (s : Place) : Type 0 where
+  pub stays : Stays before p after s
+  pub unmoved : is_there most before p ≡ true → (after ≡ before) × (s.filled ≡ p.filled)
+  pub waits : s.waits ≡ cond (is_there most before p && nat_le (p.waits + room) long) p.waits 0
+  pub spare : s.waits + room ≤ long

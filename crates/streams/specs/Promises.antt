@@ -12,6 +12,10 @@ abbrev pub came : List ℕ → Place → List ℕ → Option Place → List ℕ
 came b p b' None = []
 came b p b' (Some r) = drop (length (unread b p)) (from_frame b' r)
 
+-- and those that came before a call failed
+abbrev pub gained : List ℕ → Place → List ℕ → Place → List ℕ
+gained b p b' s = drop (length (unread b p)) (unread b' s)
+
 -- bytes that begin with a frame, cut as those of an input that has ended, and the bytes behind it
 pub record Begins (most : ℕ) (bytes frame behind : List ℕ) : Type 0 where
   pub some : 0 < length bytes

@@ -6,6 +6,7 @@ ghost use Rattle.std.specs.declared.io.ErrorKind.TheVariants.{BrokenPipe};
 ghost use Rattle.text.specs.Written.{Puts};
 ghost use Rattle.streams.specs.Failures.{error_number, number_or_0, failure_line, error_line, cause, message};
 
+use super::place::Place;
 use std::io;
 use std::io::{ErrorKind, Write};
 
@@ -14,6 +15,21 @@ use std::io::{ErrorKind, Write};
 pub enum Failure {
     Unreadable(io::Error),
     Unwritable(io::Error),
+}
+
+// A call that failed, and where the program stands then.
+#[derive(Drop)]
+pub struct Stopped {
+    pub failure: Failure,
+    pub at: Place,
+}
+
+impl From<Stopped> for Failure {
+    ghost from_gives = { λ s e. e ≡ s.failure };
+
+    fn from(stopped: Stopped) -> Failure {
+        stopped.failure
+    }
 }
 
 // What cannot be done, and the system's number of the error.

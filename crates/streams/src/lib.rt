@@ -7,7 +7,7 @@ mod place;
 mod reading;
 mod writing;
 
-pub use failure::{Failure, say};
+pub use failure::{Failure, Stopped, say};
 pub use place::Place;
 pub use reading::{next, read_all};
 pub use writing::write_out;

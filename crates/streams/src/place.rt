@@ -1,6 +1,6 @@
 // Where a program stands between its input and its output.
 ghost use Rattle.std.specs.Prelude.{◌≡◌};
-ghost use Rattle.streams.specs.Places.{start, at_frame};
+ghost use Rattle.streams.specs.Places.{start, at_frame, unreadable};
 
 // The frame lies in the input from `from` to `to`, and the input is filled up to `filled`; a read has found its end if it has
 // `ended`. It is the frame of that `number`, counted from 1. The first `waits` bytes of the text are still to be written.
@@ -41,6 +41,20 @@ pub fn at_frame(p: Place, from: usize, to: usize, filled: usize, ended: bool) ->
         ended,
         // no input is long enough to wrap this
         number: p.number.wrapping_add(1),
+        waits: p.waits,
+    }
+}
+
+// At no frame, since the input cannot be read.
+pub fn unreadable(p: Place, filled: usize) -> Place
+    ensures { result ≡ unreadable p filled }
+{
+    Place {
+        from: 0,
+        to: 0,
+        filled,
+        ended: false,
+        number: p.number,
         waits: p.waits,
     }
 }

@@ -1,12 +1,12 @@
 // The input, frame by frame.
-ghost use Rattle.std.specs.Prelude.{◌≡◌, ◌+◌, ◌-◌, ◌≤◌, ◌<◌, true, false, ◌++◌, length, take, drop, ◌≢◌, [], IfSome, IfNone, IfOk, OnErr, MatchResult};
+ghost use Rattle.std.specs.Prelude.{◌≡◌, ◌+◌, ◌-◌, ◌≤◌, ◌<◌, true, false, ◌++◌, length, take, drop, ◌≢◌, [], IfSome, IfNone, IfOk, IfErr, MatchResult};
 ghost use Rattle.std.specs.Io.{ReadsAtMost};
 ghost use Rattle.std.specs.Io.KnownBytes.{Appends, Consumes, IsAtEnd, ReadConsumes};
 ghost use Rattle.frames.specs.Frames.{frame_size};
-ghost use Rattle.streams.specs.Places.{Within, FilledBehind, Came, Next, between, unread, ended_at, waits_at, is_there};
-ghost use Rattle.streams.specs.Promises.{came};
+ghost use Rattle.streams.specs.Places.{Within, FilledBehind, Came, Next, Stays, Stops, between, unread, ended_at, waits_at};
+ghost use Rattle.streams.specs.Promises.{came, gained};
 
-use super::failure::Failure;
+use super::failure::{Failure, Stopped};
 use super::place::Place;
 use super::{failure, place, writing};
 use std::io;
@@ -68,18 +68,34 @@ struct Filling {
     ended: bool,
 }
 
+// How far the input is filled where a read has failed.
+#[derive(Drop)]
+struct Partial {
+    filled: usize,
+    error: io::Error,
+}
+
 // Reads behind the bytes that are there, until they begin with a whole frame or no more come.
-fn fill<R: Read>(reader: &mut R, input: &mut [u8], have: usize, most: usize) -> io::Result<Filling>
+fn fill<R: Read>(
+    reader: &mut R,
+    input: &mut [u8],
+    have: usize,
+    most: usize,
+) -> Result<Filling, Partial>
     requires { (have ≤ length input.old) × (most + 2 ≤ length input.old) × (frame_size most (take have input.old) false ≡ 0) }
     ensures behind { IfOk result (λ f. FilledBehind input.old have input.new f.filled) }
     ensures whole { IfOk result (λ f. f.ended ≡ false → frame_size most (take f.filled input.new) false ≢ 0) }
     ensures bytes { IfOk result (λ f. Consumes (R.remaining reader.old) (R.remaining reader.new) (between have f.filled input.new)) }
     ensures end { IfOk result (λ f. f.ended ≡ true → IsAtEnd (R.remaining reader.new)) }
+    ensures partly { IfErr result (λ p. FilledBehind input.old have input.new p.filled × Consumes (R.remaining reader.old) (R.remaining reader.new) (between have p.filled input.new)) }
 {
     let mut filled = have;
     // as in `read_all`, bytes are counted
     while filled < input.len() {
-        let count = read_more(reader, input, filled)?;
+        let count = match read_more(reader, input, filled) {
+            Ok(count) => count,
+            Err(error) => return Err(Partial { filled, error }),
+        };
         if count == 0 {
             return Ok(Filling {
                 filled,
@@ -103,16 +119,26 @@ fn refill<R: Read>(
     at: Place,
     most: usize,
     input: &mut [u8],
-) -> io::Result<Option<Place>>
+) -> Result<Option<Place>, Stopped>
     requires { Within input.old at × (most + 2 ≤ length input.old) × (frame_size most (unread input.old at) false ≡ 0) }
     ensures some { IfOk result (λ r. IfSome r (λ q. Came most input.old at input.new q × (q.waits ≡ at.waits))) }
     ensures none { IfOk result (λ r. IfNone r (unread input.old at ≡ [])) }
     ensures reads { IfOk result (λ r. Consumes (R.remaining reader.old) (R.remaining reader.new) (came input.old at input.new r)) }
     ensures end { IfOk result (λ r. ended_at r ≡ true → IsAtEnd (R.remaining reader.new)) }
+    ensures stays { IfErr result (λ s. Stays input.old at input.new s.at × (s.at.waits ≡ at.waits)) }
+    ensures gains { IfErr result (λ s. Consumes (R.remaining reader.old) (R.remaining reader.new) (gained input.old at input.new s.at)) }
 {
     let have = at.filled - at.to;
     input.copy_within(at.to..at.filled, 0);
-    let got = fill(reader, input, have, most)?;
+    let got = match fill(reader, input, have, most) {
+        Ok(got) => got,
+        Err(partial) => {
+            return Err(Stopped {
+                failure: Failure::Unreadable(partial.error),
+                at: place::unreadable(at, partial.filled),
+            });
+        }
+    };
     let size = frames::frame_size(&input[..got.filled], most, got.ended);
     let none = size == 0;
     if none {
@@ -123,8 +149,10 @@ fn refill<R: Read>(
 
 // The frame behind this one, of at most `most` bytes behind its length, if there is one. The text is written before more is read,
 // and where it has no room for another answer. Where the bytes of the reader and of the writer are known: what comes is what the
-// reader gives, which has no more once the input has ended, and the text that waited is written or still waits. The buffers are lent
-// apart: in one struct the frame, a slice of `input`, would keep the text from being written.
+// reader gives, which has no more once the input has ended, and the text that waited is written or still waits. Where a call failed,
+// another may go on from the place that comes with the failure: it is before the same frame, and what was unread is still there, with
+// what a read gave before it failed behind it; the text no longer waits, though a write that failed may have left some of it out. The
+// buffers are lent apart: in one struct the frame, a slice of `input`, would keep the text from being written.
 pub fn next<R: Read, W: Write>(
     reader: &mut R,
     writer: &mut W,
@@ -133,13 +161,14 @@ pub fn next<R: Read, W: Write>(
     room: usize,
     input: &mut [u8],
     text: &[u8],
-) -> Result<Option<Place>, Failure>
+) -> Result<Option<Place>, Stopped>
     requires { Within input.old at × (most + 2 ≤ length input.old) × (at.waits ≤ length text.now) × (room ≤ length text.now) }
     ensures next { IfOk result (Next most room (length text.now) input.old at input.new) }
-    ensures kept { OnErr result (is_there most input.old at ≡ true → input.new ≡ input.old) }
     ensures reads { IfOk result (λ r. Consumes (R.remaining reader.old) (R.remaining reader.new) (came input.old at input.new r)) }
     ensures end { IfOk result (λ r. ended_at r ≡ true → IsAtEnd (R.remaining reader.new)) }
     ensures writes { IfOk result (λ r. Appends (W.contents writer.old) (W.contents writer.new) (take (at.waits - waits_at r) text.now)) }
+    ensures stops { IfErr result (λ s. Stops most room (length text.now) input.old at input.new s.at) }
+    ensures gains { IfErr result (λ s. Consumes (R.remaining reader.old) (R.remaining reader.new) (gained input.old at input.new s.at)) }
 {
     let from = at.to;
     let filled = at.filled;
@@ -150,14 +179,16 @@ pub fn next<R: Read, W: Write>(
             return Ok(Some(place::at_frame(at, from, from + size, filled, false)));
         }
     }
-    writing::write_out(writer, &text[..at.waits])?;
     let written = Place { waits: 0, ..at };
+    if let Err(failure) = writing::write_out(writer, &text[..at.waits]) {
+        return Err(Stopped {
+            failure,
+            at: written,
+        });
+    }
     let whole = size > 0;
     if whole {
         return Ok(Some(place::at_frame(written, from, from + size, filled, false)));
     }
-    match refill(reader, written, most, input) {
-        Ok(next) => Ok(next),
-        Err(error) => Err(Failure::Unreadable(error)),
-    }
+    refill(reader, written, most, input)
 }
