@@ -47,8 +47,7 @@ pub fn run<R: Read, W: Write>(
         at = next;
         let reply = lent_set::step_in(&mut set, &input[at.from..at.to], records);
         at.waits = turns::show(at, reply, records, text);
-        let refusal = set_state::refusal_number(reply);
-        let last = refusal == 1;
+        let last = turns::is_last(reply);
         if last {
             break;
         }

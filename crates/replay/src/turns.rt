@@ -1,5 +1,5 @@
-// The answer to an entry, put into the text.
-ghost use Rattle.std.specs.Prelude.{◌+◌, ◌≤◌, length, take};
+// The answer to an entry, put into the text, and whether it is the last one.
+ghost use Rattle.std.specs.Prelude.{◌≡◌, ◌+◌, ◌≤◌, eqb, length, take};
 ghost use Rattle.text.specs.Written.{Puts};
 ghost use Rattle.answer_lines.specs.Lines.{lines_of};
 ghost use Rattle.set_state.specs.Entry.{refusal_in, count_in};
@@ -20,4 +20,11 @@ pub fn show(at: Place, reply: Result<usize, Refusal>, records: &[u8], text: &mut
         text,
         at.waits,
     )
+}
+
+// After an entry that is refused with 1 the program stops.
+pub fn is_last(reply: Result<usize, Refusal>) -> bool
+    ensures { result ≡ eqb (refusal_in reply) 1 }
+{
+    set_state::refusal_number(reply) == 1
 }

@@ -1,6 +1,6 @@
 -- Where the program stands, where the bytes of its reader and of its writer are known.
 -- Assumes nothing.
-use Rattle.std.proofs.Common.{◌≡◌, ℕ, ◌-◌, ◌+◌, ◌^◌, ◌<◌, ◌≤◌, true, false, List, [], ◌++◌, None, Some, IfSome, length, take, drop, sym, refl, ap, ◌∙◌, arith, length-drop}
+use Rattle.std.proofs.Common.{◌≡◌, ℕ, ◌-◌, ◌+◌, ◌^◌, ◌<◌, ◌≤◌, true, false, List, [], ◌++◌, None, Some, IfSome, length, take, sym, refl, ap, ◌∙◌, arith, length-drop}
 use Rattle.std.specs.Io.KnownBytes.{Appends, Consumes, IsAtEnd}
 use Rattle.std.proofs.KnownBytes.{Appends-nil}
 use Rattle.std.specs.declared.option.Option.{Option}
@@ -14,7 +14,7 @@ use Rattle.streams.specs.Places.{start, frame_at, unread, waiting, Next}
 use Rattle.streams.specs.Promises.{came, Begins, Stands}
 use Rattle.streams.proofs.Kept.{turn_goes, turn_ends, printed}
 use Rattle.streams.specs.declared.place.Place.{Place}
-use Rattle.telegrams.specs.Lines.{whole, answer_line, frame_line, telegram_lines}
+use Rattle.telegrams.specs.Lines.{whole, frame_line, telegram_lines}
 use Rattle.telegrams.specs.Promises.{Bytes}
 use Rattle.telegrams.proofs.TurnLaws.{lines_first, broken-last, lines_none}
 
@@ -55,15 +55,14 @@ module _ (x' w' : Option (List ℕ)) {given : List ℕ} {x w₀ w : Option (List
   turn = turn_goes _ telegram_lines _ w₀ w x' w' _ _ _ _ _ _ _ _ r s.stands n c d a
 
   -- a line was put for a frame
-  pub goes : (left' : ℕ) {text' : List ℕ} {waits : ℕ} → left ≤ left' + 1 → whole (frame_at b' r) ≡ true → Puts text r.waits (answer_line (drop 2 (frame_at b' r))) text' waits → waits ≤ length text
+  pub goes : (left' : ℕ) {text' : List ℕ} {waits : ℕ} → left ≤ left' + 1 → Puts text r.waits (frame_line (frame_at b' r)) text' waits → waits ≤ length text
       → Prints given x' w₀ w' b' (waiting r waits) text' left'
-  unfolding frame_line
-  goes left' {text'} {waits} i t put h =
+  goes left' {text'} {waits} i put h =
       let k : ℕ = frame_size 65535 (unread b p ++ s.rest) true in
       let l : length (unread b' r ++ turn.0) ≡ length (unread b p ++ s.rest) - k = ap length (sym turn.1.rest) ∙ length-drop k (unread b p ++ s.rest) in
       record {
         rest = turn.0;
-        stands = turn.2 telegram_lines (answer_line (drop 2 (frame_at b' r))) text' waits (lines_first turn.1 s.bytes ∙ rw t refl) put h;
+        stands = turn.2 telegram_lines (frame_line (frame_at b' r)) text' waits (lines_first turn.1 s.bytes) put h;
         bytes = rw turn.1.rest at (each_drop (λ y. y < 256) (frame_size 65535 (unread b p ++ s.rest) true) (unread b p ++ s.rest) s.bytes);
         most = omega (arith, l, i, s.most, turn.1.some, size-some 65535 (unread b p ++ s.rest) turn.1.some);
       }

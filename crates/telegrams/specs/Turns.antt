@@ -1,5 +1,5 @@
--- The turns of the program, as the contracts of what it calls give each turn: `streams::next` the frame, and `put_line` the text put for
--- it, behind which so many bytes wait.
+-- The turns of the program, as the contracts of what it calls give each turn: `streams::next` the frame, and `show` the text put for it,
+-- with how many bytes wait then, or that the program is to stop.
 use Rattle.std.specs.Prelude.{ℕ, List, [], ◌++◌, None, Some, true, false, ◌≡◌}
 use Rattle.streams.specs.Places.{Next, frame_at, waiting}
 use Rattle.streams.specs.Promises.{came}

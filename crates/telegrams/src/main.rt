@@ -5,9 +5,10 @@
 
 mod line;
 
-ghost use Rattle.std.specs.Prelude.{◌≡◌, ◌^◌, ◌≤◌, ◌<◌, length, IfSome, OnOk};
+ghost use Rattle.std.specs.Prelude.{◌≡◌, ◌+◌, ◌^◌, ◌≤◌, ◌<◌, length, is_some, IfSome, IfNone, OnOk};
 ghost use Rattle.std.specs.Io.KnownBytes.{Appends};
-ghost use Rattle.telegrams.specs.Lines.{whole, telegram_lines};
+ghost use Rattle.text.specs.Written.{Puts};
+ghost use Rattle.telegrams.specs.Lines.{whole, frame_line, telegram_lines};
 ghost use Rattle.telegrams.specs.Promises.{Bytes};
 
 use std::io::{Read, Write};
@@ -21,6 +22,21 @@ fn is_whole(frame: &[u8]) -> bool
     ensures { result ≡ whole frame.now }
 {
     frames::word(frame) + 2 == frame.len()
+}
+
+// Puts the line for a frame behind the text that waits, and gives how much waits then. For one that breaks off, behind which the
+// program stops, there is none.
+fn show(frame: &[u8], text: &mut [u8], waits: usize) -> Option<usize>
+    requires { waits + 64 ≤ length text.old }
+    ensures stops { is_some result ≡ whole frame.now }
+    ensures some { IfSome result (λ n. (n ≤ length text.new) × Puts text.old waits (frame_line frame.now) text.new n) }
+    ensures none { IfNone result (text.new ≡ text.old) }
+{
+    let whole = is_whole(frame);
+    if !whole {
+        return None;
+    }
+    Some(line::put_line(&frame[2..], text, waits))
 }
 
 // Prints the line of each telegram that the reader gives, up to one that breaks off, unless a read or a write fails.
@@ -39,12 +55,10 @@ pub fn run<R: Read, W: Write>(
             return Ok(());
         };
         at = next;
-        let frame = &input[at.from..at.to];
-        let whole = is_whole(frame);
-        if !whole {
+        let Some(waits) = show(&input[at.from..at.to], text, at.waits) else {
             break;
-        }
-        at.waits = line::put_line(&frame[2..], text, at.waits);
+        };
+        at.waits = waits;
     }
     streams::write_out(writer, &text[..at.waits])
 }

@@ -2,6 +2,7 @@
 -- Assumes nothing.
 use Rattle.std.proofs.Common.{◌≡◌, ℕ, ◌<◌, ◌^◌, List, Some, length, refl, sym, ◌∙◌, arith, rules}
 use Rattle.std.proofs.lemmas.Result.{on_ok_weaker}
+use borrow.Author.Tests.{eqb-true, eqb-false}
 use Rattle.replay.proofs.RunLaws.{Ends, first, goes, ends, stops, spent, where_known}
 use Rattle.replay.proofs.run.Goals as goal
 use Rattle.replay.proofs.run.Goals.{else-loop-test, then-loop-test+in_ok-next+in-Some+then-last}
@@ -34,7 +35,7 @@ loop-preserved g c =
       search rules,
       search rules,
       search rules,
-      λ feed k h. goes _ _ (i.5 feed k h) n (rw some at e.reads) (rw some at e.end) (rw some at e.writes) c.loop.records c.step_in-reply.ensures (i.4 ∙ c.requires.1) s.1 (omega (arith, s.0)) _ (omega arith) (λ z. c.if-last.false (c.refusal_number-refusal.ensures ∙ z)),
+      λ feed k h. goes _ _ (i.5 feed k h) n (rw some at e.reads) (rw some at e.end) (rw some at e.writes) c.loop.records c.step_in-reply.ensures (i.4 ∙ c.requires.1) s.1 (omega (arith, s.0)) _ (omega arith) (eqb-false _ 1 (sym c.is_last-last.ensures ∙ c.if-last.false)),
     )
 
 pub returns : goal.returns
@@ -50,6 +51,6 @@ returns g c =
           let some = w.in-Some.is in
           let s = w.show.ensures in
           rw (w.writer-is, w.at-is, w.text-is)
-          (stops _ _ (i.5 feed k h) (rw some at e.next) (rw some at e.reads) (rw some at e.end) (rw some at e.writes) c.loop.records w.step_in-reply.ensures (i.4 ∙ c.requires.1) s.1 (omega (arith, s.0)) (sym w.refusal_number-refusal.ensures ∙ w.if-last.true))
+          (stops _ _ (i.5 feed k h) (rw some at e.next) (rw some at e.reads) (rw some at e.end) (rw some at e.writes) c.loop.records w.step_in-reply.ensures (i.4 ∙ c.requires.1) s.1 (omega (arith, s.0)) (eqb-true _ 1 (sym w.is_last-last.ensures ∙ w.if-last.true)))
     ] in
     on_ok_weaker c.write_out.result (λ a. where_known _ _ _ (λ feed k h. ended feed k h _ a)) c.write_out.ensures
