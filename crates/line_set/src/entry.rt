@@ -17,9 +17,10 @@ fn plan(set: &mut LineSet, entry: &[u8], buffer: &mut [u8]) -> Result<usize, Ref
     if set.planned {
         return Err(Refusal::AlreadyPlanned);
     }
-    let planned = planning::plan(&entry[4..], buffer)?;
+    let planned = planning::plan(&entry[4..], buffer);
+    let count = planned.reply?;
     *set = planned.set;
-    Ok(planned.count)
+    Ok(count)
 }
 
 // A handover ends all talk and all calls, and leaves a set without a plan.

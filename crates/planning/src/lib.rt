@@ -3,4 +3,4 @@
 
 mod taking;
 
-pub use taking::{Planned, plan};
+pub use taking::plan;
