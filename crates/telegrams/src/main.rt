@@ -24,8 +24,8 @@ fn is_whole(frame: &[u8]) -> bool
     frames::word(frame) + 2 == frame.len()
 }
 
-// Puts the line for a frame behind the text that waits, and gives how much waits then. For one that breaks off, behind which the
-// program stops, there is none.
+// Puts the line for a frame behind the text that waits, and gives how much waits then. For one that breaks off it puts nothing and
+// gives None, and the program stops there.
 fn show(frame: &[u8], text: &mut [u8], waits: usize) -> Option<usize>
     requires { waits + 64 ≤ length text.old }
     ensures stops { is_some result ≡ whole frame.now }
