@@ -5,8 +5,8 @@
  * memmove and memset alone: no allocation, no system call, no global state. What a controller does around it, from its
  * sockets to each refusal, is docs/INTEGRATION.md.
  *
- * Every function is proved to do what is said of it here (the two sizes are numbers that a test holds to the compiler's
- * layout, as it does the four bytes that a set begins with), for
+ * Every function is proved to do what is said of it here (the two sizes are proved to be those of the compiler that makes
+ * the archive; that a C compiler's are the same, and the four bytes that a set begins with, a test holds), for
  *   - an entry of any bytes and any length, 0 included,
  *   - a buffer of any length, 0 included, whatever it held,
  *   - a set of any contents.
